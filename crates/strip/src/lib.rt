@@ -1,0 +1,4 @@
+//! The strip: pages by records of bytes.
+
+mod record;
+pub mod source;

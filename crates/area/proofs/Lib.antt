@@ -1,0 +1,4 @@
+pub mod Appending
+pub mod Buffering
+pub mod Holding
+pub mod Shows

@@ -1,0 +1,11 @@
+pub mod Goods
+pub mod Highs
+pub mod Laws
+pub mod PackedParts
+pub mod Words
+pub mod Calls
+pub mod Loads
+pub mod Opens
+pub mod Parts
+pub mod Sums
+pub mod Within

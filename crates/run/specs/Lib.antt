@@ -1,0 +1,4 @@
+pub mod Packed
+pub mod Coming
+pub mod Reading
+pub mod Runs

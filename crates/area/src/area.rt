@@ -8,8 +8,8 @@ ghost use lib.ListN.{length, replicate};
 ghost use lib.Dec.{leb};
 ghost use Rattle.area.specs.Areas.{filled as filledPart, counted, room as roomOf, appended, advanced, blankFrom, blanked, emptied};
 ghost use Rattle.std.specs.Results.{isOk};
-use crate::blank::Blank;
 use crate::fill::fill_all;
+use element::blank::Blank;
 
 /// Lent memory, of which the first `count` elements are filled. It is `there`, or tells that it is
 /// missing.

@@ -9,11 +9,11 @@ ghost use Rattle.std.specs.Results.{isOk};
 ghost use Rattle.area.specs.Val.{Val, int, bit};
 ghost use Rattle.area.specs.Buffers.{Laws, longest};
 use crate::area::NoRoom;
-use crate::blank::Blank;
-use crate::blank::BoolBlank;
-use crate::blank::I16Blank;
-use crate::blank::I32Blank;
-use crate::blank::I64Blank;
+use element::blank::Blank;
+use element::blank::BoolBlank;
+use element::blank::I16Blank;
+use element::blank::I32Blank;
+use element::blank::I64Blank;
 
 /// Elements of a kind that are a column's values.
 pub trait DataType: Blank {

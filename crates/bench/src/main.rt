@@ -1,9 +1,9 @@
 //! Reads streams of runs: a short one in each width for its sum, and with the argument `full` long ones for their time.
 
-use run::number::Number;
-use run::number::NumberBool;
-use run::number::NumberI16;
-use run::number::NumberU32;
+use element::number::Number;
+use element::number::NumberBool;
+use element::number::NumberI16;
+use element::number::NumberU32;
 use run::reader::RunReader;
 use std::alloc::AllocError;
 use std::alloc::Global;

@@ -11,7 +11,7 @@ ghost use Rattle.level.specs.Records.{walk, by-walk, rep-course};
 use crate::course::Course;
 use crate::walk::Walk;
 use crate::walk::walk_levels;
-use run::number::NumberU32;
+use element::number::NumberU32;
 use run::reader::RunReader;
 
 /// Passes the levels before a fault, which comes before there are `m` of them: how many.

@@ -17,8 +17,8 @@ use crate::block::next_block;
 use crate::walk::Walk;
 use crate::walk::walk_levels;
 use area::area::Area;
-use run::number::Number;
-use run::number::NumberI16;
+use element::number::Number;
+use element::number::NumberI16;
 use run::reader::RunReader;
 
 /// Writes levels as elements.

@@ -11,7 +11,7 @@ ghost use Rattle.level.specs.Courses.{equal-to, def-course};
 use crate::course::Course;
 use crate::encoding::top;
 use crate::take::take_all;
-use run::number::NumberU32;
+use element::number::NumberU32;
 use run::reader::RunReader;
 
 /// What a call for `m` definition levels comes to.

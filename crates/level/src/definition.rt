@@ -15,12 +15,12 @@ use crate::refusal::LevelRefusal;
 use crate::take::deliver;
 use crate::take::pass;
 use area::area::Area;
-use area::blank::Blank;
-use area::blank::BoolBlank;
-use area::blank::I16Blank;
-use run::number::Number;
-use run::number::NumberBool;
-use run::number::NumberI16;
+use element::blank::Blank;
+use element::blank::BoolBlank;
+use element::blank::I16Blank;
+use element::number::Number;
+use element::number::NumberBool;
+use element::number::NumberI16;
 use run::reader::RunReader;
 
 /// A decoder of definition levels.

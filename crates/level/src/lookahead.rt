@@ -24,7 +24,7 @@ use crate::take::answer;
 use crate::take::is_open_after;
 use crate::take::is_refused;
 use area::area::Area;
-use area::blank::I16Blank;
+use element::blank::I16Blank;
 use run::reader::RunReader;
 
 /// Takes levels from block to block, and appends those that fit.

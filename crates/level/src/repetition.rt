@@ -18,8 +18,8 @@ use crate::take::deliver;
 use crate::take::is_open_after;
 use crate::take::pass;
 use area::area::Area;
-use area::blank::I16Blank;
-use run::number::NumberI16;
+use element::blank::I16Blank;
+use element::number::NumberI16;
 use run::reader::RunReader;
 
 /// A decoder of repetition levels.

@@ -12,9 +12,9 @@ ghost use Rattle.level.specs.Courses.{refused, refusal, reply, left, open-afte
 use crate::course::Course;
 use crate::refusal::LevelRefusal;
 use area::area::Area;
-use area::blank::Blank;
+use element::blank::Blank;
+use element::number::Number;
 use level_bytes::fault::LevelFault;
-use run::number::Number;
 use run::reader::RunReader;
 
 /// Reads as many levels as there are places, which are all there.

@@ -6,8 +6,8 @@ ghost use Prim.Native.Nat.{_+_, _-_, _*_, _/_, _%_, _^_, _<_, _≤_};
 ghost use lib.ListN.{length, drop};
 ghost use Rattle.stream.specs.Packing.{be};
 ghost use Rattle.run.specs.Packed.{front, highs};
-use crate::number::Number;
 use crate::word::byte;
+use element::number::Number;
 
 /// The eight bytes from `j` on, highest first, with zeros behind the end.
 fn window(bytes: &[u8], j: usize) -> u64

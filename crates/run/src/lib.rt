@@ -7,7 +7,6 @@ mod limit;
 mod load;
 mod loaded;
 mod low;
-pub mod number;
 mod open;
 pub mod order;
 mod part;

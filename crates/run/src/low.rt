@@ -5,9 +5,9 @@ ghost use mathlib.Core.List.{map};
 ghost use Prim.Native.Nat.{_+_, _*_, _/_, _%_, _^_, _<_, _≤_};
 ghost use lib.ListN.{length, take};
 ghost use Rattle.run.specs.Packed.{lows};
-use crate::number::Number;
 use crate::word::low_number;
 use crate::word::word;
+use element::number::Number;
 
 /// Goes on from `first` to `last` elements of `out`, one at a time.
 fn one_by_one<T: Number>(

@@ -8,9 +8,9 @@ ghost use Rattle.run.specs.Packed.{part, good};
 use crate::high::unpack_down;
 use crate::limit::first_at_least;
 use crate::low::unpack;
-use crate::number::Number;
-use crate::number::NumberU32;
 use crate::order::Order;
+use element::number::Number;
+use element::number::NumberU32;
 
 /// The numbers behind the first `skip`, as many as `out` has places; they lie whole in the bytes.
 pub(crate) fn unpack_part<T: Number>(

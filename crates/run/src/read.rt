@@ -7,8 +7,8 @@ ghost use Rattle.run.specs.Coming.{to-come};
 ghost use Rattle.run.specs.Reading.{fails, given, after, replied, rest, filled};
 use crate::kind::StreamFault;
 use crate::loaded::Loaded;
-use crate::number::Number;
 use crate::reader::RunReader;
+use element::number::Number;
 
 impl<'a> RunReader<'a> {
     /// Reads as many numbers as `out` has places, fewer only where the stream comes to a clean end, and tells how many.

@@ -3,7 +3,7 @@
 ghost use mathlib.Core.Path.{_≡_};
 ghost use mathlib.Core.List.{map};
 ghost use lib.ListN.{length, replicate};
-use crate::number::Number;
+use element::number::Number;
 
 /// Writes the number into each element.
 pub(crate) fn repeat<T: Number>(out: &mut [T], v: u32)

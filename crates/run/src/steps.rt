@@ -11,13 +11,13 @@ ghost use Rattle.run.specs.declared.kind.Run.the-variants.{Packed};
 ghost use Rattle.run.specs.Coming.{to-come, behind, next-of};
 ghost use Rattle.run.specs.Reading.{onto, Reads, unless};
 use crate::kind::Run;
-use crate::number::Number;
 use crate::order::Order;
 use crate::part::good_part;
 use crate::part::unpack_good;
 use crate::part::unpack_part;
 use crate::reader::RunReader;
 use crate::repeated::repeat;
+use element::number::Number;
 
 /// Whether a number is good.
 fn below(x: u32, limit: u64) -> bool

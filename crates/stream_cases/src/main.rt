@@ -4,9 +4,9 @@
 //! A case is `hybrid` or `packed`, the width, the limit, the bytes in base sixteen (`-` is none),
 //! and how many numbers are asked for. Each is read number by number; and then at once, as indexes,
 //! as levels and as mask bits, and skipped, which must all agree.
-use run::number::NumberBool;
-use run::number::NumberI16;
-use run::number::NumberU32;
+use element::number::NumberBool;
+use element::number::NumberI16;
+use element::number::NumberU32;
 use run::reader::RunReader;
 use std::alloc::AllocError;
 use std::alloc::Global;

@@ -37,7 +37,7 @@ def strip(records, data):
     while at < len(records):
         kind = records[at]
         if kind not in sizes:
-            return Source(pages, f"{kind} is no kind of page")
+            return Source(pages, "the record is of an unknown kind")
         body = records[at + 1 : at + 1 + sizes[kind]]
         if len(body) < sizes[kind]:
             return Source(pages, "the strip ends within the record")
@@ -120,7 +120,7 @@ def column_file(b):
     if len(b) < 7:
         return ["refused 14: the file ends within its header"]
     if b[2] > 2:
-        return [f"refused 14: {b[2]} is no type"]
+        return ["refused 14: the type is unknown"]
     n = struct.unpack_from("<I", b, 3)[0]
     if n > len(b) - 7:
         return ["refused 14: the strip reaches past the end of the file"]

@@ -6,8 +6,10 @@ use page::list::list_pages;
 use page_text::broken_line;
 use page_text::end_line;
 use page_text::header_line;
+use page_text::making_cause;
 use page_text::page_line;
 use page_text::refused_line;
+use page_text::source_cause;
 use std::env;
 use std::fs;
 use std::io;
@@ -32,14 +34,14 @@ fn list(rt: &LibcRuntime, bytes: &[u8]) -> io::Result<()> {
     let heap = rt.alloc();
     let file = match ColumnFile::parse(bytes) {
         Ok(file) => file,
-        Err(fault) => return rt.println(refused_line(heap, fault)?),
+        Err(fault) => return rt.println(refused_line(heap, making_cause(fault))?),
     };
     match Strip::new(file.strip, file.data) {
         Ok(source) => {
             rt.println(header_line(heap, &file)?)?;
             list_source(rt, source)
         }
-        Err(fault) => rt.println(refused_line(heap, fault)?),
+        Err(fault) => rt.println(refused_line(heap, making_cause(fault))?),
     }
 }
 
@@ -52,7 +54,7 @@ fn list_source(rt: &LibcRuntime, mut source: Strip) -> io::Result<()> {
     let count = pages.len();
     match end {
         Ok(()) => rt.println(end_line(heap, count)?),
-        Err(ListError::Source(fault)) => rt.println(broken_line(heap, count, fault)?),
+        Err(ListError::Source(fault)) => rt.println(broken_line(heap, count, source_cause(fault))?),
         Err(ListError::NoMemory) => Err(io::Error::from(io::ErrorKind::OutOfMemory)),
     }
 }

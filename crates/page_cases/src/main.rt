@@ -16,8 +16,10 @@ use page::reader::at_record_boundary;
 use page_text::broken_line;
 use page_text::end_line;
 use page_text::header_line;
+use page_text::making_cause;
 use page_text::page_line;
 use page_text::refused_line;
+use page_text::source_cause;
 use raw::Raw;
 use raw::RawPageReader;
 use std::alloc::AllocError;
@@ -125,20 +127,20 @@ fn call<'a, S: PageReader<'a>>(
                     "dictionary {dictionary} rows {rows:?} levels {levels:?}"
                 )
             }
-            Err(fault) => rt.println(broken_line(heap, number, fault)?),
+            Err(fault) => rt.println(broken_line(heap, number, source_cause(fault))?),
         },
         b'g' => match source.get_next_page() {
             Ok(None) => println!(rt, "none"),
             Ok(Some(page)) => rt.println(page_line(heap, number, &page)?),
-            Err(fault) => rt.println(broken_line(heap, number, fault)?),
+            Err(fault) => rt.println(broken_line(heap, number, source_cause(fault))?),
         },
         b's' => match source.skip_next_page() {
             Ok(()) => println!(rt, "skipped"),
-            Err(fault) => rt.println(broken_line(heap, number, fault)?),
+            Err(fault) => rt.println(broken_line(heap, number, source_cause(fault))?),
         },
         b'b' => match at_record_boundary(source) {
             Ok(boundary) => println!(rt, "boundary {boundary}"),
-            Err(fault) => rt.println(broken_line(heap, number, fault)?),
+            Err(fault) => rt.println(broken_line(heap, number, source_cause(fault))?),
         },
         _ => list(rt, source),
     }
@@ -153,7 +155,7 @@ fn list<'a, S: PageReader<'a>>(rt: &LibcRuntime, source: &mut S) -> io::Result<(
     let count = pages.len();
     match end {
         Ok(()) => rt.println(end_line(heap, count)?),
-        Err(ListError::Source(fault)) => rt.println(broken_line(heap, count, fault)?),
+        Err(ListError::Source(fault)) => rt.println(broken_line(heap, count, source_cause(fault))?),
         Err(ListError::NoMemory) => Err(io::Error::from(io::ErrorKind::OutOfMemory)),
     }
 }
@@ -180,7 +182,7 @@ fn calls<'a, S: PageReader<'a> + Drop>(
             }
             Ok(())
         }
-        Err(fault) => rt.println(refused_line(rt.alloc(), fault)?),
+        Err(fault) => rt.println(refused_line(rt.alloc(), making_cause(fault))?),
     }
 }
 
@@ -240,7 +242,7 @@ fn file(rt: &LibcRuntime, bytes: &[u8]) -> io::Result<()> {
             let data = file.data;
             println!(rt, "strip {strip:?} data {data:?}")
         }
-        Err(fault) => rt.println(refused_line(heap, fault)?),
+        Err(fault) => rt.println(refused_line(heap, making_cause(fault))?),
     }
 }
 

@@ -13,13 +13,17 @@ use Rattle.column_file.specs.declared.PhysicalType.the-variants.{Boolean, Int32
 use Rattle.column_file.specs.declared.ColumnFile.{ColumnFile}
 use Rattle.page.specs.Coming.{Contents, dictionary, v1, v2}
 
-abbrev pub type-text : PhysicalType → List ℕ
-type-text Boolean = codes "0"
-type-text Int32 = codes "1"
-type-text Int64 = codes "2"
+abbrev pub type-number : PhysicalType → ℕ
+type-number Boolean = 0
+type-number Int32 = 1
+type-number Int64 = 2
 
+abbrev pub numbers-text : ℕ → ℕ → ℕ → List ℕ
+numbers-text r d t = codes "repetition " ++ (decimal r ++ (codes " definition " ++ (decimal d ++ (codes " type " ++ decimal t))))
+
+-- a column file's maxima and type
 abbrev pub header-text : ColumnFile → List ℕ
-header-text f = codes "repetition " ++ (decimal (f .«max_rep_level») ++ (codes " definition " ++ (decimal (f .«max_def_level») ++ (codes " type " ++ type-text (f .«physical_type»)))))
+header-text f = numbers-text (f .«max_rep_level») (f .«max_def_level») (type-number (f .«physical_type»))
 
 abbrev pub dictionary-fields : ℕ → ℕ → List ℕ
 dictionary-fields values encoding = codes "values " ++ (decimal values ++ (codes " encoding " ++ decimal encoding))
@@ -48,18 +52,24 @@ abbrev pub end-text : ℕ → List ℕ
 end-text count = codes "end pages " ++ decimal count
 
 -- refusal 1, with the broken record's number and its cause
-abbrev pub broken-text : ℕ → SourceFault → List ℕ
-broken-text n (UnknownKind kind) = codes "refused 1 page " ++ (decimal n ++ (codes ": " ++ (decimal kind ++ codes " is no kind of page")))
-broken-text n CutRecord = codes "refused 1 page " ++ (decimal n ++ codes ": the strip ends within the record")
-broken-text n OutsideData = codes "refused 1 page " ++ (decimal n ++ codes ": the record names bytes outside the data")
+abbrev pub broken-text : ℕ → List ℕ → List ℕ
+broken-text n cause = codes "refused 1 page " ++ (decimal n ++ (codes ": " ++ cause))
 
 -- refusal 14, with its cause
-abbrev pub refused-text : MakingFault → List ℕ
-refused-text StripTooLong = codes "refused 14: the strip has 2^31 bytes or more"
-refused-text DataTooLong = codes "refused 14: the data has 2^31 bytes or more"
-refused-text RawWidth = codes "refused 14: raw values are neither 4 nor 8 bytes wide"
-refused-text RawPageValues = codes "refused 14: a raw page holds 1 to 65536 values"
-refused-text RawCutValue = codes "refused 14: the raw bytes end within a value"
-refused-text FileTooShort = codes "refused 14: the file ends within its header"
-refused-text (FileType kind) = codes "refused 14: " ++ (decimal kind ++ codes " is no type")
-refused-text FileStrip = codes "refused 14: the strip reaches past the end of the file"
+abbrev pub refused-text : List ℕ → List ℕ
+refused-text cause = codes "refused 14: " ++ cause
+
+abbrev pub source-words : SourceFault → List ℕ
+source-words (UnknownKind _) = codes "the record is of an unknown kind"
+source-words CutRecord = codes "the strip ends within the record"
+source-words OutsideData = codes "the record names bytes outside the data"
+
+abbrev pub making-words : MakingFault → List ℕ
+making-words StripTooLong = codes "the strip has 2^31 bytes or more"
+making-words DataTooLong = codes "the data has 2^31 bytes or more"
+making-words RawWidth = codes "raw values are neither 4 nor 8 bytes wide"
+making-words RawPageValues = codes "a raw page holds 1 to 65536 values"
+making-words RawCutValue = codes "the raw bytes end within a value"
+making-words FileTooShort = codes "the file ends within its header"
+making-words (FileType _) = codes "the type is unknown"
+making-words FileStrip = codes "the strip reaches past the end of the file"

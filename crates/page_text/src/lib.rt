@@ -3,7 +3,7 @@ ghost use mathlib.Core.Path.{_≡_};
 ghost use Rattle.std.specs.Of.String.{string-bytes};
 ghost use Rattle.std.specs.Vec.{made};
 ghost use Rattle.page.specs.Coming.{contents-of};
-ghost use Rattle.page_text.specs.Text.{header-text, page-text, line-text, dictionary-fields, v1-fields, v2-fields, end-text, broken-text, refused-text};
+ghost use Rattle.page_text.specs.Text.{header-text, numbers-text, type-number, page-text, line-text, dictionary-fields, v1-fields, v2-fields, end-text, broken-text, refused-text, source-words, making-words};
 use column_file::ColumnFile;
 use column_file::PhysicalType;
 use page::fault::MakingFault;
@@ -12,26 +12,38 @@ use page::page::Page;
 use std::alloc::AllocError;
 use std::alloc::Global;
 
+/// The number of a type.
+fn type_number(physical_type: PhysicalType) -> u8
+    ensures { λ r. ⌜ r ≡ type-number «physical_type» ⌝ }
+{
+    match physical_type {
+        PhysicalType::Boolean => 0,
+        PhysicalType::Int32 => 1,
+        PhysicalType::Int64 => 2,
+    }
+}
+
 /// The line of a column file: its maxima and its type.
 pub fn header_line(heap: Global, file: &ColumnFile) -> Result<String, AllocError>
     ensures { λ r. ⌜ made r (λ t. string-bytes t ≡ header-text (now (file .entry))) ⌝ }
 {
-    let repetition = file.max_rep_level;
-    let definition = file.max_def_level;
-    match file.physical_type {
-        PhysicalType::Boolean => format!(
-            heap,
-            "repetition {repetition} definition {definition} type 0"
-        ),
-        PhysicalType::Int32 => format!(
-            heap,
-            "repetition {repetition} definition {definition} type 1"
-        ),
-        PhysicalType::Int64 => format!(
-            heap,
-            "repetition {repetition} definition {definition} type 2"
-        ),
-    }
+    let kind = type_number(file.physical_type);
+    numbers_line(heap, file.max_rep_level, file.max_def_level, kind)
+}
+
+/// The same of the three numbers.
+fn numbers_line(
+    heap: Global,
+    repetition: u8,
+    definition: u8,
+    kind: u8,
+) -> Result<String, AllocError>
+    ensures { λ r. ⌜ made r (λ t. string-bytes t ≡ numbers-text repetition definition kind) ⌝ }
+{
+    format!(
+        heap,
+        "repetition {repetition} definition {definition} type {kind}"
+    )
 }
 
 /// The line of a page.
@@ -162,46 +174,42 @@ pub fn end_line(heap: Global, count: usize) -> Result<String, AllocError>
 }
 
 /// The closing line where the record after `count` pages is broken.
-pub fn broken_line(heap: Global, count: usize, fault: SourceFault) -> Result<String, AllocError>
-    ensures { λ r. ⌜ made r (λ t. string-bytes t ≡ broken-text count fault) ⌝ }
+pub fn broken_line(heap: Global, count: usize, cause: &str) -> Result<String, AllocError>
+    ensures { λ r. ⌜ made r (λ t. string-bytes t ≡ broken-text count (now (cause .entry))) ⌝ }
 {
-    match fault {
-        SourceFault::UnknownKind(kind) => format!(
-            heap,
-            "refused 1 page {count}: {kind} is no kind of page"
-        ),
-        SourceFault::CutRecord => format!(
-            heap,
-            "refused 1 page {count}: the strip ends within the record"
-        ),
-        SourceFault::OutsideData => format!(
-            heap,
-            "refused 1 page {count}: the record names bytes outside the data"
-        ),
-    }
+    format!(heap, "refused 1 page {count}: {cause}")
 }
 
 /// The closing line where nothing could be made.
-pub fn refused_line(heap: Global, fault: MakingFault) -> Result<String, AllocError>
-    ensures { λ r. ⌜ made r (λ t. string-bytes t ≡ refused-text fault) ⌝ }
+pub fn refused_line(heap: Global, cause: &str) -> Result<String, AllocError>
+    ensures { λ r. ⌜ made r (λ t. string-bytes t ≡ refused-text (now (cause .entry))) ⌝ }
+{
+    format!(heap, "refused 14: {cause}")
+}
+
+/// Why a record is broken, in words.
+pub fn source_cause(fault: SourceFault) -> &'static str
+    ensures { λ r. ⌜ now r ≡ source-words fault ⌝ }
 {
     match fault {
-        MakingFault::StripTooLong => format!(heap, "refused 14: the strip has 2^31 bytes or more"),
-        MakingFault::DataTooLong => format!(heap, "refused 14: the data has 2^31 bytes or more"),
-        MakingFault::RawWidth => format!(
-            heap,
-            "refused 14: raw values are neither 4 nor 8 bytes wide"
-        ),
-        MakingFault::RawPageValues => format!(
-            heap,
-            "refused 14: a raw page holds 1 to 65536 values"
-        ),
-        MakingFault::RawCutValue => format!(heap, "refused 14: the raw bytes end within a value"),
-        MakingFault::FileTooShort => format!(heap, "refused 14: the file ends within its header"),
-        MakingFault::FileType(kind) => format!(heap, "refused 14: {kind} is no type"),
-        MakingFault::FileStrip => format!(
-            heap,
-            "refused 14: the strip reaches past the end of the file"
-        ),
+        SourceFault::UnknownKind(_) => "the record is of an unknown kind",
+        SourceFault::CutRecord => "the strip ends within the record",
+        SourceFault::OutsideData => "the record names bytes outside the data",
+    }
+}
+
+/// Why nothing could be made, in words.
+pub fn making_cause(fault: MakingFault) -> &'static str
+    ensures { λ r. ⌜ now r ≡ making-words fault ⌝ }
+{
+    match fault {
+        MakingFault::StripTooLong => "the strip has 2^31 bytes or more",
+        MakingFault::DataTooLong => "the data has 2^31 bytes or more",
+        MakingFault::RawWidth => "raw values are neither 4 nor 8 bytes wide",
+        MakingFault::RawPageValues => "a raw page holds 1 to 65536 values",
+        MakingFault::RawCutValue => "the raw bytes end within a value",
+        MakingFault::FileTooShort => "the file ends within its header",
+        MakingFault::FileType(_) => "the type is unknown",
+        MakingFault::FileStrip => "the strip reaches past the end of the file",
     }
 }

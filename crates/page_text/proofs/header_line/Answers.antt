@@ -1,11 +1,11 @@
-use borrow.Author.Needs.{needs}
+use mathlib.Core.Path.{ap}
+use Rattle.std.specs.Of.String.{string-bytes}
+use Rattle.page_text.specs.Text.{numbers-text}
+use Rattle.page_text.proofs.Texts.{made-same}
 use Rattle.page_text.proofs.header_line.Needs as need
 
-pub returns-in-Boolean : need.returns-in-Boolean
-returns-in-Boolean c = simp (c .in-Boolean .is) (search needs)
-
-pub returns-in-Int32 : need.returns-in-Int32
-returns-in-Int32 c = simp (c .in-Int32 .is) (search needs)
-
-pub returns-in-Int64 : need.returns-in-Int64
-returns-in-Int64 c = simp (c .in-Int64 .is) (search needs)
+pub returns : need.returns
+returns c =
+    let f = c .args .file .now in
+    made-same string-bytes (c .numbers-line .result) _ _ (c .numbers-line .ensures)
+      (ap (λ k. numbers-text (f .«max_rep_level») (f .«max_def_level») k) (c .type-number-kind .ensures))

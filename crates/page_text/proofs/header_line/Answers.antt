@@ -8,4 +8,4 @@ pub returns : need.returns
 returns c =
     let f = c .args .file .now in
     made-same string-bytes (c .numbers-line .result) _ _ (c .numbers-line .ensures)
-      (ap (λ k. numbers-text (f .«max_rep_level») (f .«max_def_level») k) (c .type-number-kind .ensures))
+    (ap (λ k. numbers-text (f .«max_rep_level») (f .«max_def_level») k) (c .type-number-kind .ensures))

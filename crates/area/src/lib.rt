@@ -1,4 +1,5 @@
 //! Areas: lent memory with a filled count, and what values are appended to.
+#![tactic(auto)]
 
 pub mod area;
 mod fill;

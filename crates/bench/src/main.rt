@@ -1,4 +1,5 @@
 //! Reads streams of runs: a short one in each width for its sum, and with the argument `full` long ones for their time.
+#![tactic(auto)]
 
 use element::number::Number;
 use run::reader::RunReader;

@@ -1,4 +1,6 @@
 //! The file in which a column comes to our programs.
+#![tactic(auto)]
+
 ghost use Rattle.std.specs.Prelude.{◌≡◌};
 ghost use Rattle.page.specs.Coming.{made_of};
 ghost use Rattle.column_file.specs.ColumnFile.{file_of, file_made, type_made, parts_of, parts_made};

@@ -1,4 +1,5 @@
 //! Decoders of a column's levels.
+#![tactic(auto)]
 
 mod ahead;
 mod block;

@@ -1,4 +1,5 @@
 //! The bytes of a page that hold its levels.
+#![tactic(auto)]
 
 pub mod cut;
 pub mod fault;

@@ -1,4 +1,6 @@
 //! Lists the pages of a column file.
+#![tactic(auto)]
+
 use column_file::ColumnFile;
 use page::list::{ListError, ListedPage, list_pages};
 use page_text::{

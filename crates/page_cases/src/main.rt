@@ -4,6 +4,8 @@
 //! `chain` and two of these; bytes are in base sixteen, and `-` is none. The calls are letters:
 //! `p` peeks, `g` gets, `s` skips, `b` asks for the record boundary, `l` lists to the end. A case
 //! `file BYTES` takes a column file apart.
+#![tactic(auto)]
+
 use column_file::ColumnFile;
 use page::chain::Chain;
 use page::fault::MakingFault;

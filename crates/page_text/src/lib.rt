@@ -1,4 +1,6 @@
 //! Column files, pages and refusals as lines of text.
+#![tactic(auto)]
+
 ghost use Rattle.std.specs.Prelude.{◌≡◌, IfOk, string_bytes};
 ghost use Rattle.page.specs.Coming.{contents_of};
 ghost use Rattle.page_text.specs.Text.{header_text, numbers_text, type_number, page_as_text, line_text, dictionary_fields, v1_fields, v2_fields, end_text, broken_text, refused_text, source_words, making_words};

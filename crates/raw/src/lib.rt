@@ -1,4 +1,6 @@
 //! Plain values cut into pages.
+#![tactic(auto)]
+
 ghost use Rattle.std.specs.Prelude.{◌≡◌, ◌<◌, ◌≤◌};
 ghost use Rattle.page.specs.Coming.{made_of};
 ghost use Rattle.raw.specs.Raw.{raw_of, raw_made, bytes_of, page_bytes_of, by_part, Fitting};

@@ -1,4 +1,5 @@
 //! A reader of the numbers in a stream of runs, over the unpacking of packed numbers in bulk.
+#![tactic(auto)]
 
 mod bits;
 mod high;

@@ -4,6 +4,8 @@
 //! A case is `hybrid` or `packed`, the width, the limit, the bytes in base sixteen (`-` is none),
 //! and how many numbers are asked for. Each is read number by number; and then at once, as indexes,
 //! as levels and as mask bits, and skipped, which must all agree.
+#![tactic(auto)]
+
 use run::reader::RunReader;
 use std::alloc::{AllocError, Global};
 use std::io;

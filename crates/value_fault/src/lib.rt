@@ -1,3 +1,4 @@
 //! Why values cannot be had, and what values to come are.
+#![tactic(auto)]
 
 pub mod fault;

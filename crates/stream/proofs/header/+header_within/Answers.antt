@@ -23,7 +23,7 @@ returns-in-Is t c =
     let k : ℕ = c.args.k in
     record {
       is = header_over k bs (Is c.in-Is.h c.in-Is.n) (omega arith) (omega arith) (omega arith) h.is;
-      small = (omega (arith, sevens_more k (omega arith), c.type-inv.bytes 0), omega arith, omega (arith, simp (length-take, length-drop) at h.small.2));
+      small = (omega (arith, sevens_more k (omega arith), c.type_inv.bytes 0), omega arith, omega (arith, simp (length-take, length-drop) at h.small.2));
     }
 
 pub returns-in-Cut : goal.returns-in-Cut

@@ -9,11 +9,11 @@ loop-i-init c =
     let bs : List ℕ = c.args.bytes.now in
     (omega arith, sym (at_drop_all le bs (length bs) (omega arith)), pow_pos (8 * (length bs - length bs)))
 
-pub overflow-mul-all : goal.overflow-mul-all
-overflow-mul-all c = omega (arith, bytes_top (length c.args.bytes.now - c.loop-i.i) (omega arith))
+pub overflow_mul-all : goal.overflow_mul-all
+overflow_mul-all c = omega (arith, bytes_top (length c.args.bytes.now - c.loop-i.i) (omega arith))
 
-pub overflow-add-all : goal.overflow-add-all
-overflow-add-all c = omega (arith, bytes_top (length c.args.bytes.now - c.loop-i.i) (omega arith), c.type-inv.bytes (c.loop-i.i - 1))
+pub overflow_add-all : goal.overflow_add-all
+overflow_add-all c = omega (arith, bytes_top (length c.args.bytes.now - c.loop-i.i) (omega arith), c.type_inv.bytes (c.loop-i.i - 1))
 
 pub loop-i-preserved : goal.loop-i-preserved
 loop-i-preserved c =
@@ -24,4 +24,4 @@ loop-i-preserved c =
     let e2 : le (drop (i - 1 + 1) bs) ≡ le (drop i bs) = ap (λ n. le (drop n bs)) s in
     let p : length bs - (i - 1) ≡ length bs - i + 1 = omega arith in
     let q : 2 ^ (8 * (length bs - (i - 1))) ≡ 256 * 2 ^ (8 * (length bs - i)) = ap (λ n. 2 ^ (8 * n)) p ∙ bytes_more (length bs - i) in
-    (omega arith, omega arith, omega (arith, c.type-inv.bytes (i - 1)))
+    (omega arith, omega arith, omega (arith, c.type_inv.bytes (i - 1)))

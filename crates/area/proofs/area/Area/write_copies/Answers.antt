@@ -9,4 +9,4 @@ returns g c =
     let x = c.args.x in
     let at : ℕ = c.len-at.result in
     let k : length (take ((at + n) - at) (drop at c.args.self.now.slice.now)) ≡ n = simp (length-take, length-drop) (omega arith) in
-    append_is c.args.self.now at n c.fill-all.new.out (replicate n x) c.len-at.ensures (length-replicate n x) c.requires (c.fill-all.ensures ∙ ap (λ (j : ℕ). replicate j x) k)
+    append_is c.args.self.now at n c.fill_all.new.out (replicate n x) c.len-at.ensures (length-replicate n x) c.requires (c.fill_all.ensures ∙ ap (λ (j : ℕ). replicate j x) k)

@@ -88,7 +88,7 @@ pub part_length : (at n : ℕ) (vs : List ℕ) → at + n ≤ length vs → leng
 part_length at n vs h = length-take (at + n - at) (drop at vs) ∙ (ap (min (at + n - at)) (length-drop at vs) ∙ omega arith)
 
 pub part_some : (r : Raw) (n : ℕ) → r.at < length r.values.now → n ≡ min (page_bytes_of r) (length r.values.now - r.at)
-    → raw_of r ≡ by_part r (Some (record { ref_ptr = r.values.ref_ptr; ghost_name = r.values.ghost_name; now = take (r.at + n - r.at) (drop r.at r.values.now) }))
+    → raw_of r ≡ by_part r (Some (record { ref_ptr = r.values.ref_ptr; now = take (r.at + n - r.at) (drop r.at r.values.now) }))
 part_some r n h e =
     same_part r n (take (r.at + n - r.at) (drop r.at r.values.now))
     (ap (λ m. take m (drop r.at r.values.now)) (let z : r.at + n - r.at ≡ n = omega arith in z))

@@ -38,7 +38,9 @@ fn window(bytes: &[u8], j: usize) -> u64
 
 /// The number at the place `i`, which lies whole in the bytes.
 fn high_number(bytes: &[u8], i: usize, width: u32) -> u32
-    requires { (width ≤ 32) × ((i < 2 ^ 33) × ((i + 1) * width ≤ 8 * length bytes.now)) }
+    requires narrow { width ≤ 32 }
+    requires short { i < 2 ^ 33 }
+    requires whole { (i + 1) * width ≤ 8 * length bytes.now }
     ensures { result ≡ be bytes.now / 2 ^ (8 * length bytes.now - (i + 1) * width) % 2 ^ width }
 {
     if width == 0 {
@@ -51,7 +53,9 @@ fn high_number(bytes: &[u8], i: usize, width: u32) -> u32
 
 /// The numbers behind the first `skip`, as many as `out` has places; they lie whole in the bytes.
 pub(crate) fn unpack_down<T: Number>(bytes: &[u8], skip: usize, width: u32, out: &mut [T])
-    requires { (width ≤ 32) × ((skip + length out.old < 2 ^ 33) × ((skip + length out.old) * width ≤ 8 * length bytes.now)) }
+    requires narrow { width ≤ 32 }
+    requires short { skip + length out.old < 2 ^ 33 }
+    requires whole { (skip + length out.old) * width ≤ 8 * length bytes.now }
     ensures { out.new ≡ map T.Number.from (highs width skip (length out.old) bytes.now) }
 {
     for i in 0..out.len() {

@@ -14,7 +14,8 @@ use stream::header::{Header, Start, read_header, read_start};
 impl<'a> RunReader<'a> {
     /// Goes on behind the header of a repeated run.
     fn repeated(self, rest: &'a [u8], count: u32, value: u32) -> RunReader<'a>
-        requires { (count ≤ 2147483647) × (value_bytes self.width.bits ≤ length rest.now) }
+        requires short { count ≤ 2147483647 }
+        requires there { value_bytes self.width.bits ≤ length rest.now }
         ensures is { to_come result ≡ within self.entry.limit (replicate count value) (hybrid self.entry.width.bits self.entry.limit (drop (value_bytes self.entry.width.bits) rest.now)) }
         ensures on { length result.bytes.now ≤ length rest.now }
     {

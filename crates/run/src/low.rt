@@ -15,8 +15,11 @@ fn one_by_one<T: Number>(
     first: usize,
     last: usize,
 )
-    requires width_bound { (width ≤ 32) × ((skip + last < 2 ^ 33) × ((first ≤ last) × (last ≤ length out.old))) }
-    requires out_value { take first out.old ≡ map T.Number.from (lows width skip first bytes.now) }
+    requires narrow { width ≤ 32 }
+    requires short { skip + last < 2 ^ 33 }
+    requires order { first ≤ last }
+    requires within { last ≤ length out.old }
+    requires so_far { take first out.old ≡ map T.Number.from (lows width skip first bytes.now) }
     ensures { take last out.new ≡ map T.Number.from (lows width skip last bytes.now) }
 {
     for i in first..last {
@@ -32,9 +35,13 @@ fn by_groups<T: Number, const W: usize>(
     out: &mut [T],
     first: usize,
 ) -> usize
-    requires width_value { width ≡ W }
-    requires w_nonzero { (0 < W) × ((W ≤ 32) × ((skip + length out.old < 2 ^ 33) × ((first ≤ length out.old) × ((skip + first) % 8 ≡ 0)))) }
-    requires out_value { take first out.old ≡ map T.Number.from (lows width skip first bytes.now) }
+    requires width_is { width ≡ W }
+    requires some_bits { 0 < W }
+    requires narrow { W ≤ 32 }
+    requires short { skip + length out.old < 2 ^ 33 }
+    requires within { first ≤ length out.old }
+    requires whole_groups { (skip + first) % 8 ≡ 0 }
+    requires so_far { take first out.old ≡ map T.Number.from (lows width skip first bytes.now) }
     ensures most { result ≤ length out.old }
     ensures is { take result out.new ≡ map T.Number.from (lows width skip result bytes.now) }
 {
@@ -61,9 +68,13 @@ fn by_words<T: Number, const W: usize>(
     out: &mut [T],
     first: usize,
 ) -> usize
-    requires width_value { width ≡ W }
-    requires w_nonzero { (0 < W) × ((W ≤ 8) × ((skip + length out.old < 2 ^ 33) × ((first ≤ length out.old) × ((skip + first) % 8 ≡ 0)))) }
-    requires out_value { take first out.old ≡ map T.Number.from (lows width skip first bytes.now) }
+    requires width_is { width ≡ W }
+    requires some_bits { 0 < W }
+    requires narrow { W ≤ 8 }
+    requires short { skip + length out.old < 2 ^ 33 }
+    requires within { first ≤ length out.old }
+    requires whole_groups { (skip + first) % 8 ≡ 0 }
+    requires so_far { take first out.old ≡ map T.Number.from (lows width skip first bytes.now) }
     ensures most { result ≤ length out.old }
     ensures is { take result out.new ≡ map T.Number.from (lows width skip result bytes.now) }
 {
@@ -84,7 +95,8 @@ fn by_words<T: Number, const W: usize>(
 
 /// The numbers behind the first `skip`, as many as `out` has places; past the bytes' end all bits are 0.
 pub(crate) fn unpack<T: Number>(bytes: &[u8], skip: usize, width: u32, out: &mut [T])
-    requires { (width ≤ 32) × (skip + length out.old < 2 ^ 33) }
+    requires narrow { width ≤ 32 }
+    requires short { skip + length out.old < 2 ^ 33 }
     ensures { out.new ≡ map T.Number.from (lows width skip (length out.old) bytes.now) }
 {
     let head = ((8 - skip % 8) % 8).min(out.len());
@@ -99,8 +111,11 @@ pub(crate) fn unpack<T: Number>(bytes: &[u8], skip: usize, width: u32, out: &mut
 
 /// `by_groups` at the width.
 fn groups<T: Number>(bytes: &[u8], skip: usize, width: u32, out: &mut [T], first: usize) -> usize
-    requires width_bound { (width ≤ 32) × ((skip + length out.old < 2 ^ 33) × ((first ≤ length out.old) × ((skip + first) % 8 ≡ 0))) }
-    requires out_value { take first out.old ≡ map T.Number.from (lows width skip first bytes.now) }
+    requires narrow { width ≤ 32 }
+    requires short { skip + length out.old < 2 ^ 33 }
+    requires within { first ≤ length out.old }
+    requires whole_groups { (skip + first) % 8 ≡ 0 }
+    requires so_far { take first out.old ≡ map T.Number.from (lows width skip first bytes.now) }
     ensures most { result ≤ length out.old }
     ensures is { take result out.new ≡ map T.Number.from (lows width skip result bytes.now) }
 {

@@ -17,7 +17,9 @@ pub(crate) fn unpack_part<T: Number>(
     width: u32,
     out: &mut [T],
 )
-    requires { (width ≤ 32) × ((skip + length out.old < 2 ^ 33) × ((skip + length out.old) * width ≤ 8 * length bytes.now)) }
+    requires narrow { width ≤ 32 }
+    requires short { skip + length out.old < 2 ^ 33 }
+    requires whole { (skip + length out.old) * width ≤ 8 * length bytes.now }
     ensures { out.new ≡ map T.Number.from (part order width skip (length out.old) bytes.now) }
 {
     match order {
@@ -35,7 +37,9 @@ fn good_block(
     held: &mut [u32],
     limit: u64,
 ) -> usize
-    requires { (width ≤ 32) × ((skip + length held.old < 2 ^ 33) × ((skip + length held.old) * width ≤ 8 * length bytes.now)) }
+    requires narrow { width ≤ 32 }
+    requires short { skip + length held.old < 2 ^ 33 }
+    requires whole { (skip + length held.old) * width ≤ 8 * length bytes.now }
     ensures seen { result ≡ good limit (part order width skip (length held.old) bytes.now) }
     ensures held { held.new ≡ part order width skip (length held.old) bytes.now }
 {
@@ -52,7 +56,9 @@ pub(crate) fn good_part(
     n: usize,
     limit: u64,
 ) -> usize
-    requires { (width ≤ 32) × ((skip + n < 2 ^ 33) × ((skip + n) * width ≤ 8 * length bytes.now)) }
+    requires narrow { width ≤ 32 }
+    requires short { skip + n < 2 ^ 33 }
+    requires whole { (skip + n) * width ≤ 8 * length bytes.now }
     ensures { result ≡ good limit (part order width skip n bytes.now) }
 {
     let mut held = [0u32; 256];
@@ -89,7 +95,10 @@ pub(crate) fn unpack_good<T: Number>(
     out: &mut [T],
     at: usize,
 ) -> usize
-    requires { (width ≤ 32) × ((skip + n < 2 ^ 33) × (((skip + n) * width ≤ 8 * length bytes.now) × (at + n ≤ length out.old))) }
+    requires narrow { width ≤ 32 }
+    requires short { skip + n < 2 ^ 33 }
+    requires whole { (skip + n) * width ≤ 8 * length bytes.now }
+    requires room { at + n ≤ length out.old }
     ensures is { result ≡ good limit (part order width skip n bytes.now) }
     ensures written { out.new ≡ take at out.old ++ (map T.Number.from (part order width skip result bytes.now) ++ drop (at + result) out.old) }
 {

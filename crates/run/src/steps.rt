@@ -120,7 +120,8 @@ impl<'a> RunReader<'a> {
 
     /// `take` of packed numbers, each held against the limit as it is written.
     fn take_held<T: Number>(&mut self, order: Order, out: &mut [T], at: usize) -> (usize, bool)
-        requires { (at ≤ length out.old) × (self.old.run ≡ Packed order) }
+        requires within { at ≤ length out.old }
+        requires packed { self.old.run ≡ Packed order }
         ensures reads { Reads T.Number.from (to_come self.old) at out.old result.0 out.new (unless result.1 (to_come self.new)) }
         ensures bad { result.1 ≡ true → at + result.0 < length out.old }
         ensures done { result.1 ≡ false → at + result.0 < length out.old → self.new.left ≡ 0 }

@@ -49,7 +49,8 @@ fn window(bytes: &[u8], j: usize) -> u64
 
 /// The number at the place `i` of those packed from the lowest bit up.
 pub(crate) fn low_number(bytes: &[u8], i: usize, width: u32) -> u32
-    requires { (width ≤ 32) × (i < 2 ^ 33) }
+    requires narrow { width ≤ 32 }
+    requires short { i < 2 ^ 33 }
     ensures { result ≡ le bytes.now / 2 ^ (i * width) % 2 ^ width }
 {
     let bit = i * width as usize;

@@ -3,5 +3,5 @@ use Rattle.level_bytes.proofs.width.level_width.Goals as goal
 
 pub returns : goal.returns
 returns c =
-    let w = wide c.args.max-level c.ranges.max-level c.if-max-level-le0.false in
-    record { is = w.is; bits = w.bits-of; small = w.small }
+    let w = wide c.args.max_level c.ranges.max_level c.if-max_level-le0.false in
+    record { is = w.is; bits = w.bits_of; small = w.small }

@@ -11,6 +11,6 @@ returns c =
     let n = c.min-length.result in
     let l = part_length r.at n r.values.now (omega arith) in
     record {
-      means = part_some r n (omega arith) (c.min-length.ensures ∙ ap (λ b. min b (length r.values.now - r.at)) c.page-bytes.ensures.value);
-      fits = (omega (arith, c.page-bytes.ensures.bound), omega arith);
+      means = part_some r n (omega arith) (c.min-length.ensures ∙ ap (λ b. min b (length r.values.now - r.at)) c.page_bytes.ensures.value);
+      fits = (omega (arith, c.page_bytes.ensures.bound), omega arith);
     }

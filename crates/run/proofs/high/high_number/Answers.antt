@@ -16,4 +16,4 @@ returns c =
     let w : ℕ = c.args.width in
     let e : (i + 1) * w ≡ i * w + w = omega (arith, add-mul i 1 w, one-mul w) in
     high_field c.args.bytes.now (i * w / 8) (i * w % 8) w ((i + 1) * w) c.window.result
-    (λ k. omega (arith, c.type-inv.bytes k)) (omega arith) (omega arith) (omega arith) (omega arith) c.window.ensures
+    (λ k. omega (arith, c.type_inv.bytes k)) (omega arith) (omega arith) (omega arith) (omega arith) c.window.ensures

@@ -7,16 +7,16 @@ use Rattle.run.proofs.high.unpack_down.Goals as goal
 pub loop-i-init : goal.loop-i-init
 loop-i-init g c = sym (ap (map g.T.Number.from) (highs_none c.args.width c.args.skip c.args.bytes.now))
 
-pub high-number-requires : goal.high-number-requires
-high-number-requires g c =
+pub high_number-requires : goal.high_number-requires
+high_number-requires g c =
     let m : c.args.skip + c.loop-i.i + 1 ≤ c.args.skip + length c.args.out.now = omega arith in
     let p = mul-le-mul_right c.args.width m in
-    (omega arith, (omega arith, omega arith))
+    record { narrow = omega arith; short = omega arith; whole = omega arith }
 
 pub loop-i-preserved : goal.loop-i-preserved
 loop-i-preserved g c =
-    put_high g.T.Number.from c.loop-i.out c.args.width c.args.skip c.loop-i.i c.high-number.result c.from-u32.result c.args.bytes.now
-    (omega arith) c.loop-i.invariant c.from-u32.ensures c.high-number.ensures
+    put_high g.T.Number.from c.loop-i.out c.args.width c.args.skip c.loop-i.i c.high_number.result c.from_u32.result c.args.bytes.now
+    (omega arith) c.loop-i.invariant c.from_u32.ensures c.high_number.ensures
 
 pub returns : goal.returns
 returns g c =

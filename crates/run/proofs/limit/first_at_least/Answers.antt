@@ -7,7 +7,7 @@ loop-i-preserved c = good_more c.args.limit c.loop-i.i c.args.numbers.now (omega
 
 pub returns-then-limit-gt4294967295 : goal.returns-then-limit-gt4294967295
 returns-then-limit-gt4294967295 c =
-    sym (good_all c.args.limit c.args.numbers.now (λ i h. omega (arith, c.type-inv.numbers i)))
+    sym (good_all c.args.limit c.args.numbers.now (λ i h. omega (arith, c.type_inv.numbers i)))
 
 pub returns-then-numbers-i : goal.returns-then-numbers-i
 returns-then-numbers-i c = sym (good_stop c.args.limit c.loop-i.i c.args.numbers.now (omega arith) c.loop-i.invariant (omega arith))

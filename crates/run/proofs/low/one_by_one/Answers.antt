@@ -8,5 +8,5 @@ loop-i-preserved g c =
     let w : ℕ = c.args.width in
     let a : ℕ = c.args.skip in
     let bs : List ℕ = c.args.bytes.now in
-    put_low g.T.Number.from c.loop-i.out w a i (i + 1) c.low-number.result c.from-u32.result bs
-    (omega arith) (omega arith) c.loop-i.invariant c.from-u32.ensures c.low-number.ensures
+    put_low g.T.Number.from c.loop-i.out w a i (i + 1) c.low_number.result c.from_u32.result bs
+    (omega arith) (omega arith) c.loop-i.invariant c.from_u32.ensures c.low_number.ensures

@@ -12,8 +12,8 @@ loop-i-init g c =
 pub loop-i-preserved : goal.loop-i-preserved
 loop-i-preserved g c =
     let i : ℕ = c.loop-i.i in
-    placed_more g.T.Number.from c.args.out.now c.loop-i.out c.args.numbers.now c.args.at i (get_or c.args.numbers.now i 0) c.from-u32.result
-    (omega arith) (omega arith) c.loop-i.invariant c.from-u32.ensures refl
+    placed_more g.T.Number.from c.args.out.now c.loop-i.out c.args.numbers.now c.args.at i (get_or c.args.numbers.now i 0) c.from_u32.result
+    (omega arith) (omega arith) c.loop-i.invariant c.from_u32.ensures refl
 
 pub returns : goal.returns
 returns g c =

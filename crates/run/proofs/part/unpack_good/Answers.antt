@@ -19,55 +19,55 @@ loop-k-init g c =
           ∙ (ap (λ j. take c.args.at o ++ drop j o) e ∙ ap (λ xs. take c.args.at o ++ (map g.T.Number.from xs ++ drop (c.args.at + 0) o)) (sym z)),
     )
 
-pub good-block-seen-requires : goal.good-block-seen-requires
-good-block-seen-requires g c =
+pub good_block-seen-requires : goal.good_block-seen-requires
+good_block-seen-requires g c =
     let m : ℕ = c.min-m.result in
     let l : length (take (m - 0) c.loop-k.held) ≡ m = length-take (m - 0) c.loop-k.held ∙ omega arith in
     let s : c.args.skip + c.loop-k.k + length (take (m - 0) c.loop-k.held) ≤ c.args.skip + c.args.n = omega arith in
     let p = mul-le-mul_right c.args.width s in
-    (omega arith, (omega arith, omega arith))
+    record { narrow = omega arith; short = omega arith; whole = omega arith }
 
-pub slice-bounds-place-end : goal.slice-bounds-place-end
-slice-bounds-place-end g c =
-    let e = seen_of c.args.order c.args.width (c.args.skip + c.loop-k.k) c.min-m.result c.args.limit c.good-block-seen.result c.args.bytes.now c.loop-k.held (omega arith) c.good-block-seen.ensures.seen in
-    let l = seen_most c.args.order c.args.width (c.args.skip + c.loop-k.k) c.min-m.result c.args.limit c.good-block-seen.result c.args.bytes.now e in
-    let h = held_of c.args.order c.args.width (c.args.skip + c.loop-k.k) c.min-m.result c.args.bytes.now c.loop-k.held c.good-block-seen.new.held (omega arith) c.good-block-seen.ensures.held in
+pub slice_bounds-place-end : goal.slice_bounds-place-end
+slice_bounds-place-end g c =
+    let e = seen_of c.args.order c.args.width (c.args.skip + c.loop-k.k) c.min-m.result c.args.limit c.good_block-seen.result c.args.bytes.now c.loop-k.held (omega arith) c.good_block-seen.ensures.seen in
+    let l = seen_most c.args.order c.args.width (c.args.skip + c.loop-k.k) c.min-m.result c.args.limit c.good_block-seen.result c.args.bytes.now e in
+    let h = held_of c.args.order c.args.width (c.args.skip + c.loop-k.k) c.min-m.result c.args.bytes.now c.loop-k.held c.good_block-seen.new.held (omega arith) c.good_block-seen.ensures.held in
     let n = ap length h ∙ part_length c.args.order c.args.width (c.args.skip + c.loop-k.k) c.min-m.result c.args.bytes.now in
     simp length-append (omega arith)
 
 pub place-requires : goal.place-requires
 place-requires g c =
-    let e = seen_of c.args.order c.args.width (c.args.skip + c.loop-k.k) c.min-m.result c.args.limit c.good-block-seen.result c.args.bytes.now c.loop-k.held (omega arith) c.good-block-seen.ensures.seen in
-    let l = seen_most c.args.order c.args.width (c.args.skip + c.loop-k.k) c.min-m.result c.args.limit c.good-block-seen.result c.args.bytes.now e in
+    let e = seen_of c.args.order c.args.width (c.args.skip + c.loop-k.k) c.min-m.result c.args.limit c.good_block-seen.result c.args.bytes.now c.loop-k.held (omega arith) c.good_block-seen.ensures.seen in
+    let l = seen_most c.args.order c.args.width (c.args.skip + c.loop-k.k) c.min-m.result c.args.limit c.good_block-seen.result c.args.bytes.now e in
     simp length-take (omega arith)
 
-pub overflow-add-k : goal.overflow-add-k
-overflow-add-k g c =
-    let e = seen_of c.args.order c.args.width (c.args.skip + c.loop-k.k) c.min-m.result c.args.limit c.good-block-seen.result c.args.bytes.now c.loop-k.held (omega arith) c.good-block-seen.ensures.seen in
-    let l = seen_most c.args.order c.args.width (c.args.skip + c.loop-k.k) c.min-m.result c.args.limit c.good-block-seen.result c.args.bytes.now e in
+pub overflow_add-k : goal.overflow_add-k
+overflow_add-k g c =
+    let e = seen_of c.args.order c.args.width (c.args.skip + c.loop-k.k) c.min-m.result c.args.limit c.good_block-seen.result c.args.bytes.now c.loop-k.held (omega arith) c.good_block-seen.ensures.seen in
+    let l = seen_most c.args.order c.args.width (c.args.skip + c.loop-k.k) c.min-m.result c.args.limit c.good_block-seen.result c.args.bytes.now e in
     omega arith
 
 pub returns-then-seen-m : goal.returns-then-seen-m
 returns-then-seen-m g c =
-    let e = seen_of c.args.order c.args.width (c.args.skip + c.loop-k.k) c.min-m.result c.args.limit c.good-block-seen.result c.args.bytes.now c.loop-k.held (omega arith) c.good-block-seen.ensures.seen in
-    let l = seen_most c.args.order c.args.width (c.args.skip + c.loop-k.k) c.min-m.result c.args.limit c.good-block-seen.result c.args.bytes.now e in
-    let h = held_of c.args.order c.args.width (c.args.skip + c.loop-k.k) c.min-m.result c.args.bytes.now c.loop-k.held c.good-block-seen.new.held (omega arith) c.good-block-seen.ensures.held in
+    let e = seen_of c.args.order c.args.width (c.args.skip + c.loop-k.k) c.min-m.result c.args.limit c.good_block-seen.result c.args.bytes.now c.loop-k.held (omega arith) c.good_block-seen.ensures.seen in
+    let l = seen_most c.args.order c.args.width (c.args.skip + c.loop-k.k) c.min-m.result c.args.limit c.good_block-seen.result c.args.bytes.now e in
+    let h = held_of c.args.order c.args.width (c.args.skip + c.loop-k.k) c.min-m.result c.args.bytes.now c.loop-k.held c.good_block-seen.new.held (omega arith) c.good_block-seen.ensures.held in
     record {
-      is = good_ends c.args.order c.args.width c.args.skip c.loop-k.k c.min-m.result c.args.n c.args.limit c.good-block-seen.result c.args.bytes.now (omega arith) c.loop-k.invariant.1 e (omega arith);
-      written = good_placed g.T.Number.from c.args.out.now c.loop-k.out c.place.new.out c.args.order c.args.width c.args.skip c.loop-k.k c.min-m.result c.good-block-seen.result c.args.at c.args.bytes.now c.good-block-seen.new.held (post_of 0 (c.min-m.result - 0) c.loop-k.held) (omega arith) l h c.loop-k.invariant.3 c.place.ensures;
+      is = good_ends c.args.order c.args.width c.args.skip c.loop-k.k c.min-m.result c.args.n c.args.limit c.good_block-seen.result c.args.bytes.now (omega arith) c.loop-k.invariant.1 e (omega arith);
+      written = good_placed g.T.Number.from c.args.out.now c.loop-k.out c.place.new.out c.args.order c.args.width c.args.skip c.loop-k.k c.min-m.result c.good_block-seen.result c.args.at c.args.bytes.now c.good_block-seen.new.held (post_of 0 (c.min-m.result - 0) c.loop-k.held) (omega arith) l h c.loop-k.invariant.3 c.place.ensures;
     }
 
 pub loop-k-preserved : goal.loop-k-preserved
 loop-k-preserved g c =
-    let e = seen_of c.args.order c.args.width (c.args.skip + c.loop-k.k) c.min-m.result c.args.limit c.good-block-seen.result c.args.bytes.now c.loop-k.held (omega arith) c.good-block-seen.ensures.seen in
-    let l = seen_most c.args.order c.args.width (c.args.skip + c.loop-k.k) c.min-m.result c.args.limit c.good-block-seen.result c.args.bytes.now e in
-    let h = held_of c.args.order c.args.width (c.args.skip + c.loop-k.k) c.min-m.result c.args.bytes.now c.loop-k.held c.good-block-seen.new.held (omega arith) c.good-block-seen.ensures.held in
-    let q : c.good-block-seen.result ≡ c.min-m.result = omega arith in
+    let e = seen_of c.args.order c.args.width (c.args.skip + c.loop-k.k) c.min-m.result c.args.limit c.good_block-seen.result c.args.bytes.now c.loop-k.held (omega arith) c.good_block-seen.ensures.seen in
+    let l = seen_most c.args.order c.args.width (c.args.skip + c.loop-k.k) c.min-m.result c.args.limit c.good_block-seen.result c.args.bytes.now e in
+    let h = held_of c.args.order c.args.width (c.args.skip + c.loop-k.k) c.min-m.result c.args.bytes.now c.loop-k.held c.good_block-seen.new.held (omega arith) c.good_block-seen.ensures.held in
+    let q : c.good_block-seen.result ≡ c.min-m.result = omega arith in
     let f = good_on c.args.order c.args.width c.args.skip c.loop-k.k c.min-m.result c.args.limit c.args.bytes.now c.loop-k.invariant.1 in (
       omega arith,
       ap (λ j. good c.args.limit (part c.args.order c.args.width c.args.skip (c.loop-k.k + j) c.args.bytes.now)) q ∙ (f ∙ ap (λ j. c.loop-k.k + j) (sym e)),
       simp (length-append, length-drop) (omega (arith, length-take (c.min-m.result - 0) c.loop-k.held)),
-      good_placed g.T.Number.from c.args.out.now c.loop-k.out c.place.new.out c.args.order c.args.width c.args.skip c.loop-k.k c.min-m.result c.good-block-seen.result c.args.at c.args.bytes.now c.good-block-seen.new.held (post_of 0 (c.min-m.result - 0) c.loop-k.held) (omega arith) l h c.loop-k.invariant.3 c.place.ensures,
+      good_placed g.T.Number.from c.args.out.now c.loop-k.out c.place.new.out c.args.order c.args.width c.args.skip c.loop-k.k c.min-m.result c.good_block-seen.result c.args.at c.args.bytes.now c.good_block-seen.new.held (post_of 0 (c.min-m.result - 0) c.loop-k.held) (omega arith) l h c.loop-k.invariant.3 c.place.ensures,
     )
 
 pub returns : goal.returns

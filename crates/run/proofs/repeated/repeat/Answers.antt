@@ -6,8 +6,8 @@ use Rattle.run.proofs.repeated.repeat.Goals as goal
 pub loop-i-preserved : goal.loop-i-preserved
 loop-i-preserved g c =
     let i : ℕ = c.loop-i.i in
-    put_more g.T.Number.from c.loop-i.out i c.args.v c.from-u32-x.result (replicate i c.args.v) (replicate (i + 1) c.args.v)
-    (omega arith) c.loop-i.invariant c.from-u32-x.ensures (sym (replicate_more i c.args.v))
+    put_more g.T.Number.from c.loop-i.out i c.args.v c.from_u32-x.result (replicate i c.args.v) (replicate (i + 1) c.args.v)
+    (omega arith) c.loop-i.invariant c.from_u32-x.ensures (sym (replicate_more i c.args.v))
 
 pub returns : goal.returns
 returns g c =

@@ -11,4 +11,4 @@ returns c =
     let i : ℕ = c.args.i in
     let w : ℕ = c.args.width in
     low_field c.args.bytes.now (i * w / 8) (i * w % 8) w (i * w) c.window.result
-    (λ k. omega (arith, c.type-inv.bytes k)) (omega arith) (omega arith) (omega arith) c.window.ensures
+    (λ k. omega (arith, c.type_inv.bytes k)) (omega arith) (omega arith) (omega arith) c.window.ensures

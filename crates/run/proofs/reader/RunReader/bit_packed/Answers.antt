@@ -8,11 +8,11 @@ pub returns-then-bytes : goal.returns-then-bytes
 returns-then-bytes c =
     c.broken.ensures ∙ packed_vast c.args.width.bits c.bits-bits.result c.args.limit c.args.bytes.now c.bits-bits.ensures.is (omega arith) c.bits-bits.ensures.small (omega arith)
 
-pub invariant-of-result : goal.invariant-of-result
-invariant-of-result c =
+pub invariant_of-result : goal.invariant_of-result
+invariant_of-result c =
     let k : ℕ = length c.args.bytes.now in
     let e = ap (λ w. (0 + 8 * k / c.bits-bits.result) * w) c.bits-bits.ensures.is in
-    (omega arith, (le-leb _ _ (omega (arith, cut_fits c.bits-bits.result k)), tt))
+    record { few = omega arith; whole = le-leb _ _ (omega (arith, cut_fits c.bits-bits.result k)) }
 
 pub returns : goal.returns
 returns c =

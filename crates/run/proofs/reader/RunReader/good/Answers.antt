@@ -14,15 +14,14 @@ returns-then-self-bits c =
     good_width c.in-Packed.order s.width.bits s.at c.args.n s.limit s.packed.now u
     ∙ ap (λ r. good s.limit (of_run r s.width.bits s.at c.args.n s.packed.now)) (sym c.in-Packed.is)
 
-pub good-part-requires : goal.good-part-requires
-good-part-requires c =
-    let s = c.args.self in (
-      c.bits-in-Packed.ensures.small,
-      (
-        omega arith,
-        part_room s.run c.in-Packed.order s.width.bits c.bits-in-Packed.result s.at c.args.n s.left s.packed.now c.in-Packed.is c.bits-in-Packed.ensures.is (omega arith) s.whole,
-      ),
-    )
+pub good_part-requires : goal.good_part-requires
+good_part-requires c =
+    let s = c.args.self in
+    record {
+      narrow = c.bits-in-Packed.ensures.small;
+      short = omega arith;
+      whole = part_room s.run c.in-Packed.order s.width.bits c.bits-in-Packed.result s.at c.args.n s.left s.packed.now c.in-Packed.is c.bits-in-Packed.ensures.is (omega arith) s.whole;
+    }
 
 pub returns-then-below : goal.returns-then-below
 returns-then-below c =

@@ -19,25 +19,22 @@ next_is s o b n e q = ap (λ w. part o w s.at n s.packed.now) q ∙ ap (λ r. of
 good_few : (s : RunReader) (k n : ℕ) → k ≡ good s.limit (next_of s n) → k ≤ n
 good_few s k n e = omega (arith, good_most s.limit (next_of s n), run_length s.run s.width.bits s.at n s.packed.now)
 
-pub unpack-good-k-requires : goal.unpack-good-k-requires
-unpack-good-k-requires g c =
-    let s = c.args.self.now in (
-      c.bits.ensures.small,
-      (
-        omega arith,
-        (
-          part_room s.run c.args.order s.width.bits c.bits.result s.at c.min-n.result s.left s.packed.now c.requires.1 c.bits.ensures.is (omega arith) s.whole,
-          omega arith,
-        ),
-      ),
-    )
+pub unpack_good-k-requires : goal.unpack_good-k-requires
+unpack_good-k-requires g c =
+    let s = c.args.self.now in
+    record {
+      narrow = c.bits.ensures.small;
+      short = omega arith;
+      whole = part_room s.run c.args.order s.width.bits c.bits.result s.at c.min-n.result s.left s.packed.now c.requires.packed c.bits.ensures.is (omega arith) s.whole;
+      room = omega arith;
+    }
 
 pub moved-requires : goal.moved-requires
 moved-requires g c =
     let s = c.args.self.now in
     let n : ℕ = c.min-n.result in
-    let i = c.unpack-good-k.ensures.is ∙ ap (good s.limit) (next_is s c.args.order c.bits.result n c.requires.1 c.bits.ensures.is) in
-    omega (arith, good_few s c.unpack-good-k.result n i)
+    let i = c.unpack_good-k.ensures.is ∙ ap (good s.limit) (next_is s c.args.order c.bits.result n c.requires.packed c.bits.ensures.is) in
+    omega (arith, good_few s c.unpack_good-k.result n i)
 
 pub returns : goal.returns
 returns g c =
@@ -45,9 +42,9 @@ returns g c =
     let f = g.T.Number.from in
     let o = c.args.out.now in
     let at : ℕ = c.args.at in
-    let k : ℕ = c.unpack-good-k.result in
+    let k : ℕ = c.unpack_good-k.result in
     let n : ℕ = c.min-n.result in
-    let i = c.unpack-good-k.ensures.is ∙ ap (good s.limit) (next_is s c.args.order c.bits.result n c.requires.1 c.bits.ensures.is) in
+    let i = c.unpack_good-k.ensures.is ∙ ap (good s.limit) (next_is s c.args.order c.bits.result n c.requires.packed c.bits.ensures.is) in
     let l = good_few s k n i in
     record {
       reads = record {
@@ -58,8 +55,8 @@ returns g c =
               ∙ ap (λ t. onto (next_of s k) (unless (ltb k n) t)) (sym c.moved.ensures.is);
         };
         most = omega arith;
-        written = c.unpack-good-k.ensures.written
-            ∙ ap (λ xs. take at o ++ (map f xs ++ drop (at + k) o)) (next_is s c.args.order c.bits.result k c.requires.1 c.bits.ensures.is);
+        written = c.unpack_good-k.ensures.written
+            ∙ ap (λ xs. take at o ++ (map f xs ++ drop (at + k) o)) (next_is s c.args.order c.bits.result k c.requires.packed c.bits.ensures.is);
       };
       bad = λ e. omega (arith, ltb-true k n e);
       done = λ e h. omega (arith, c.moved.ensures.left, ltb-false k n e);

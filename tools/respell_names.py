@@ -85,13 +85,9 @@ def turned(path, text, names):
         return re.sub(r"`[^`\n]*`", lambda m: turn(m.group(0), names), text)
     out = []
     for line in text.splitlines(keepends=True):
-        if path.endswith(".antt"):
-            front, comment = code(line, "--")
-            out.append(turn(front, names) + comment)
-        else:
-            front, comment = code(line, "//")
-            parts = re.split(r'("(?:[^"\\]|\\.)*")', front)
-            out.append("".join(p if i % 2 else turn(p, names) for i, p in enumerate(parts)) + comment)
+        front, comment = code(line, "--" if path.endswith(".antt") else "//")
+        parts = re.split(r'("(?:[^"\\]|\\.)*")', front)
+        out.append("".join(p if i % 2 else turn(p, names) for i, p in enumerate(parts)) + comment)
     return "".join(out)
 
 

@@ -22,7 +22,9 @@ pub struct NoRoom;
 impl<'b, T> Area<'b, T> {
     /// An empty area over the lent memory.
     pub fn new(slice: &'b mut [T]) -> Area<'b, T>
-        ensures { (result.slice ≡ slice.entry) × ((result.count ≡ 0) × (result.there ≡ true)) }
+        ensures memory { result.slice ≡ slice.entry }
+        ensures empty { result.count ≡ 0 }
+        ensures there { result.there ≡ true }
     {
         Area {
             slice,
@@ -33,7 +35,9 @@ impl<'b, T> Area<'b, T> {
 
     /// An area that tells it is missing: it has no memory and no room.
     pub fn missing() -> Area<'b, T>
-        ensures { (result.slice.now ≡ []) × ((result.count ≡ 0) × (result.there ≡ false)) }
+        ensures no_memory { result.slice.now ≡ [] }
+        ensures empty { result.count ≡ 0 }
+        ensures missing { result.there ≡ false }
     {
         Area {
             slice: &mut [],

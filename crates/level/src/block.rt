@@ -81,7 +81,8 @@ pub(crate) fn rep_course(reader: RunReader<'_>, partial: bool, q: usize, m: usiz
 
 /// Walks on from block to block.
 fn walk_on(reader: RunReader<'_>, block: &mut [u32], partial: bool, q: usize, m: usize) -> Course
-    requires { (0 < q) × (0 < length block.old) }
+    requires some_records { 0 < q }
+    requires some_levels { 0 < length block.old }
     ensures { result ≡ by_walk (walk partial q (take m (to_come reader.entry).numbers)) m (to_come reader.entry) }
 {
     let mut ahead = reader;

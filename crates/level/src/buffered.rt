@@ -77,7 +77,8 @@ impl<'a> Ahead<'a> {
 
     /// Walks over the next `n` levels that are held.
     pub(crate) fn walk_held(&self, n: usize, partial: bool, q: usize) -> Walk
-        requires { (n ≤ self.now.len - self.now.offset) × (0 < q) }
+        requires held { n ≤ self.now.len - self.now.offset }
+        requires some_records { 0 < q }
         ensures is { result ≡ walk partial q (take n (coming self.now).numbers) }
         ensures most { result.taken ≤ n }
         ensures few { result.closed ≤ q }

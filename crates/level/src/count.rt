@@ -56,7 +56,8 @@ fn count_next(reader: RunReader<'_>, k: usize, max: u32) -> usize
 
 /// Reads the next levels, which are all there, into a block: how many of them equal the maximum.
 fn count_block(reader: &mut RunReader<'_>, block: &mut [u32], max: u32) -> usize
-    requires { (length block.old ≤ length (to_come reader.old).numbers) × (length block.old ≤ 1024) }
+    requires there { length block.old ≤ length (to_come reader.old).numbers }
+    requires small { length block.old ≤ 1024 }
     ensures is { result ≡ equal_to max (take (length block.old) (to_come reader.old).numbers) }
     ensures most { result ≤ length block.old }
     ensures comes { to_come reader.new ≡ after (length block.old) (to_come reader.old) }

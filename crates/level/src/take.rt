@@ -34,7 +34,8 @@ pub(crate) fn skip_all(reader: &mut RunReader<'_>, n: usize)
 
 /// Appends the next `n` levels, which are there and fit.
 fn append<T: Number>(reader: &mut RunReader<'_>, out: &mut Area<'_, T>, n: usize)
-    requires { (n ≤ length (to_come reader.old).numbers) × (n ≤ room_of out.old) }
+    requires there { n ≤ length (to_come reader.old).numbers }
+    requires room { n ≤ room_of out.old }
     ensures holds { out.new ≡ appended out.old (map T.Number.from (take n (to_come reader.old).numbers)) }
     ensures comes { to_come reader.new ≡ after n (to_come reader.old) }
 {
@@ -118,7 +119,8 @@ pub(crate) fn pass(
     course: Course,
     m: usize,
 ) -> Result<(usize, usize), LevelRefusal>
-    requires { (course.taken ≤ length (to_come reader.old).numbers) × (course.taken ≤ m) }
+    requires there { course.taken ≤ length (to_come reader.old).numbers }
+    requires within { course.taken ≤ m }
     ensures told { result ≡ reply m course }
     ensures comes { to_come reader.new ≡ left m course (to_come reader.old) }
 {

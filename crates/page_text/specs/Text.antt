@@ -31,7 +31,7 @@ v1_fields levels encoding definition repetition =
 abbrev pub v2_fields : ℕ → ℕ → ℕ → ℕ → ℕ → ℕ → List ℕ
 v2_fields levels nulls rows repetition definition encoding =
     codes "levels " ++ (decimal levels ++ (codes " nulls " ++ (decimal nulls ++ (codes " rows " ++ (decimal rows
-    ++ (codes " repetition_bytes " ++ (decimal repetition ++ (codes " definition_bytes " ++ (decimal definition ++ (codes " encoding " ++ decimal encoding))))))))))
+    ++ (codes " repetition-bytes " ++ (decimal repetition ++ (codes " definition-bytes " ++ (decimal definition ++ (codes " encoding " ++ decimal encoding))))))))))
 
 -- a page's number, kind and place, and then its own fields
 abbrev pub line_text : ℕ → List ℕ → ℕ → ℕ → List ℕ → List ℕ

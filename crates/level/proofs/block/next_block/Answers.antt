@@ -7,8 +7,8 @@ use Rattle.level.proofs.Counts.{ok_fails, ok_given, err_fails}
 use Rattle.level.proofs.Blocks.{block_holds, fault_given, fault_after}
 use Rattle.level.proofs.block.next_block.Goals as goal
 
-pub pass-to-fault-requires : goal.pass-to-fault-requires
-pass-to-fault-requires c =
+pub pass_to_fault-requires : goal.pass_to_fault-requires
+pass_to_fault-requires c =
     let s : Stream = to_come c.args.reader.now in
     let o : List ℕ = c.args.out.now in
     let f = err_fails (length o) s c.in-Err.field-0 c.in-Err.ensures.reply in
@@ -36,10 +36,10 @@ returns-in-Err c =
     let o : List ℕ = c.args.out.now in
     let f = err_fails (length o) s c.in-Err.field-0 c.in-Err.ensures.reply in
     let e : to_come c.read.new.self ≡ s = c.read.ensures.rest ∙ cond-true (fails (length o) s) s (after (length o) s) f in
-    let n = c.pass-to-fault.ensures.many ∙ (ap (λ (z : Stream). length z.numbers) e ∙ fault_given (length o) s f) in
+    let n = c.pass_to_fault.ensures.many ∙ (ap (λ (z : Stream). length z.numbers) e ∙ fault_given (length o) s f) in
     record {
       many = n;
       bad = sym f;
       filled = ap (λ (j : ℕ). take j c.read.new.out) n ∙ block_holds s o c.read.new.out c.read.ensures.filled;
-      comes = c.pass-to-fault.ensures.comes ∙ fault_after (length o) s f;
+      comes = c.pass_to_fault.ensures.comes ∙ fault_after (length o) s f;
     }

@@ -6,7 +6,7 @@ use Rattle.level.proofs.count.count_block.Goals as goal
 pub returns : goal.returns
 returns c =
     record {
-      is = c.count-equal.ensures.is ∙ ap (equal_to c.args.max) (c.take-all.ensures.filled ∙ map_same _);
-      most = omega (arith, c.count-equal.ensures.most, c.take-all.auto.out);
-      comes = c.take-all.ensures.comes;
+      is = c.count_equal.ensures.is ∙ ap (equal_to c.args.max) (c.take_all.ensures.filled ∙ map_same _);
+      most = omega (arith, c.count_equal.ensures.most, c.take_all.auto.out);
+      comes = c.take_all.ensures.comes;
     }

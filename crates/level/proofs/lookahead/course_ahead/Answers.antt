@@ -17,8 +17,8 @@ returns-then-q-eq0 c =
 pub returns : goal.returns
 returns c =
     record {
-      is = c.walk-ahead.ensures.is ∙ sym (rep_some c.args.partial c.args.q c.args.m (coming c.args.ahead.now) (omega arith));
-      comes = c.walk-ahead.ensures.comes;
-      holds = c.walk-ahead.ensures.holds;
-      back = c.walk-ahead.ensures.back;
+      is = c.walk_ahead.ensures.is ∙ sym (rep_some c.args.partial c.args.q c.args.m (coming c.args.ahead.now) (omega arith));
+      comes = c.walk_ahead.ensures.comes;
+      holds = c.walk_ahead.ensures.holds;
+      back = c.walk_ahead.ensures.back;
     }

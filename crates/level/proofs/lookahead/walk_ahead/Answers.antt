@@ -61,16 +61,16 @@ returns-then-stopped c =
     let z = c.walks in
     let v : Stream = coming c.ready-k.new.self in
     let a = stands_to c.args.partial c.args.q c.args.m s z.taken z.closed z.opened (coming z.ahead) v z.invariant.0 c.ready-k.ensures.comes in
-    let w : Walk = c.walk-held-walked.result in
+    let w : Walk = c.walk_held-walked.result in
     let n : ℕ = c.min-n.result in
     let d = a.comes in
-    let y = area_more level c.args.out.now z.out c.hand-on.new.out s.numbers z.taken w.taken a.there z.invariant.1
-    (c.hand-on.ensures.holds ∙ ap (λ (x : Stream). appended z.out (map level (take (min w.taken (room z.out)) x.numbers))) d) in
+    let y = area_more level c.args.out.now z.out c.hand_on.new.out s.numbers z.taken w.taken a.there z.invariant.1
+    (c.hand_on.ensures.holds ∙ ap (λ (x : Stream). appended z.out (map level (take (min w.taken (room z.out)) x.numbers))) d) in
     record {
-      is = sym (stands_stop c.args.partial c.args.q c.args.m s z.taken z.closed z.opened v a n w (omega arith) c.walk-held-walked.ensures.is c.if-stopped.true);
-      comes = λ _. c.hand-on.ensures.comes ∙ (ap (after w.taken) d ∙ after_after z.taken w.taken s);
+      is = sym (stands_stop c.args.partial c.args.q c.args.m s z.taken z.closed z.opened v a n w (omega arith) c.walk_held-walked.ensures.is c.if-stopped.true);
+      comes = λ _. c.hand_on.ensures.comes ∙ (ap (after w.taken) d ∙ after_after z.taken w.taken s);
       holds = λ _. y;
-      back = area_back level (pos 0) c.args.out.now c.hand-on.new.out s.numbers (z.taken + w.taken) y;
+      back = area_back level (pos 0) c.args.out.now c.hand_on.new.out s.numbers (z.taken + w.taken) y;
     }
 
 pub walks-preserved : goal.walks-preserved
@@ -79,14 +79,14 @@ walks-preserved c =
     let z = c.walks in
     let v : Stream = coming c.ready-k.new.self in
     let a = stands_to c.args.partial c.args.q c.args.m s z.taken z.closed z.opened (coming z.ahead) v z.invariant.0 c.ready-k.ensures.comes in
-    let w : Walk = c.walk-held-walked.result in
+    let w : Walk = c.walk_held-walked.result in
     let n : ℕ = c.min-n.result in
     let d = a.comes in
     let h : n ≤ length v.numbers = omega (arith, c.ready-k.ensures.there) in
-    let t = stands_taken c.args.partial c.args.q c.args.m s z.taken z.closed z.opened v a n w (omega arith) c.walk-held-walked.ensures.is c.if-stopped.false h in (
-      stands_more c.args.partial c.args.q c.args.m s z.taken z.closed z.opened v a n w (omega arith) c.walk-held-walked.ensures.is (coming c.hand-on.new.self) c.if-stopped.false h (c.hand-on.ensures.comes ∙ ap (λ (j : ℕ). after j v) t),
-      area_more level c.args.out.now z.out c.hand-on.new.out s.numbers z.taken w.taken a.there z.invariant.1
-          (c.hand-on.ensures.holds ∙ ap (λ (x : Stream). appended z.out (map level (take (min w.taken (room z.out)) x.numbers))) d),
+    let t = stands_taken c.args.partial c.args.q c.args.m s z.taken z.closed z.opened v a n w (omega arith) c.walk_held-walked.ensures.is c.if-stopped.false h in (
+      stands_more c.args.partial c.args.q c.args.m s z.taken z.closed z.opened v a n w (omega arith) c.walk_held-walked.ensures.is (coming c.hand_on.new.self) c.if-stopped.false h (c.hand_on.ensures.comes ∙ ap (λ (j : ℕ). after j v) t),
+      area_more level c.args.out.now z.out c.hand_on.new.out s.numbers z.taken w.taken a.there z.invariant.1
+          (c.hand_on.ensures.holds ∙ ap (λ (x : Stream). appended z.out (map level (take (min w.taken (room z.out)) x.numbers))) d),
     )
 
 pub walks-smaller : goal.walks-smaller
@@ -95,8 +95,8 @@ walks-smaller c =
     let z = c.walks in
     let v : Stream = coming c.ready-k.new.self in
     let a = stands_to c.args.partial c.args.q c.args.m s z.taken z.closed z.opened (coming z.ahead) v z.invariant.0 c.ready-k.ensures.comes in
-    let w : Walk = c.walk-held-walked.result in
+    let w : Walk = c.walk_held-walked.result in
     let n : ℕ = c.min-n.result in
     let h : n ≤ length v.numbers = omega (arith, c.ready-k.ensures.there) in
-    let t = stands_taken c.args.partial c.args.q c.args.m s z.taken z.closed z.opened v a n w (omega arith) c.walk-held-walked.ensures.is c.if-stopped.false h in
+    let t = stands_taken c.args.partial c.args.q c.args.m s z.taken z.closed z.opened v a n w (omega arith) c.walk_held-walked.ensures.is c.if-stopped.false h in
     omega (arith, t, a.most, c.if-taken-m.false)

@@ -6,8 +6,8 @@ use Rattle.area.specs.Areas.{cells}
 use Rattle.level.proofs.Taking.{appended_next, part_length}
 use Rattle.level.proofs.take.append.Goals as goal
 
-pub take-all-requires : goal.take-all-requires
-take-all-requires g c = let e = part_length (cells c.args.out.now) c.len-at.result c.args.n (omega arith) in omega (arith, e, c.requires)
+pub take_all-requires : goal.take_all-requires
+take_all-requires g c = let e = part_length (cells c.args.out.now) c.len-at.result c.args.n (omega arith) in omega (arith, e)
 
 pub returns : goal.returns
 returns g c =
@@ -17,6 +17,6 @@ returns g c =
     let at : ℕ = c.len-at.result in
     let e = part_length (cells a) at n (omega arith) in
     record {
-      holds = c.advance.ensures ∙ appended_next g.T.Number.from a s at n c.take-all.new.out c.len-at.ensures c.requires.0 c.requires.1 c.take-all.ensures.filled;
-      comes = c.take-all.ensures.comes ∙ ap (λ (j : ℕ). after j s) e;
+      holds = c.advance.ensures ∙ appended_next g.T.Number.from a s at n c.take_all.new.out c.len-at.ensures c.requires.there c.requires.room c.take_all.ensures.filled;
+      comes = c.take_all.ensures.comes ∙ ap (λ (j : ℕ). after j s) e;
     }

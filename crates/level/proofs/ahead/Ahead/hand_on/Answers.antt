@@ -17,5 +17,5 @@ returns c =
     let h = held_front a.buffer a.offset a.len s (omega arith) (omega arith) f (omega (arith, c.requires)) in
     record {
       comes = held_rest a.buffer a.offset a.len s (omega arith) (omega arith) k (omega (arith, c.requires));
-      holds = c.append-levels.ensures ∙ (ap (λ (z : List ℕ). appended o (map level z)) h ∙ ap (λ (j : ℕ). appended o (map level (take j (coming a).numbers))) e);
+      holds = c.append_levels.ensures ∙ (ap (λ (z : List ℕ). appended o (map level z)) h ∙ ap (λ (j : ℕ). appended o (map level (take j (coming a).numbers))) e);
     }

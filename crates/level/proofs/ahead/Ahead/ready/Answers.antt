@@ -17,13 +17,13 @@ pub returns : goal.returns
 returns c =
     let a = c.args.self.now in
     let s = to_come a.reader in
-    let t = to_come c.next-block-k.new.reader in
-    let b : List ℕ = c.next-block-k.new.out in
-    let k : ℕ = c.next-block-k.result.0 in
+    let t = to_come c.next_block-k.new.reader in
+    let b : List ℕ = c.next_block-k.new.out in
+    let k : ℕ = c.next_block-k.result.0 in
     let n : ℕ = length a.buffer in
-    let bad = c.next-block-k.result.1 in
-    let e = c.next-block-k.ensures in
-    let h : k ≤ length b = omega (arith, e.many, c.next-block-k.auto.out) in
+    let bad = c.next_block-k.result.1 in
+    let e = c.next_block-k.ensures in
+    let h : k ≤ length b = omega (arith, e.many, c.next_block-k.auto.out) in
     record {
       many = omega arith;
       there = filled_there s t b k n bad e.many e.bad e.filled e.comes h;

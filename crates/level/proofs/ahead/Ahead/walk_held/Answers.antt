@@ -14,9 +14,9 @@ returns c =
     let q : ℕ = c.args.q in
     let n : ℕ = c.args.n in
     let xs : List ℕ = take n (coming a).numbers in
-    let w = c.walk-levels.ensures ∙ ap (walk p q) (held_front a.buffer a.offset a.len (to_come a.reader) (omega arith) (omega arith) n c.requires.0) in
+    let w = c.walk_levels.ensures ∙ ap (walk p q) (held_front a.buffer a.offset a.len (to_come a.reader) (omega arith) (omega arith) n c.requires.held) in
     record {
       is = w;
       most = omega (arith, ap (λ z. z.taken) w, walk_length p q xs, length-take n (coming a).numbers);
-      few = omega (arith, ap (λ z. z.closed) w, walk_most p q xs c.requires.1);
+      few = omega (arith, ap (λ z. z.closed) w, walk_most p q xs c.requires.some_records);
     }

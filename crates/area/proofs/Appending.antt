@@ -1,12 +1,12 @@
 -- The laws of appending to an area and of setting it back, over its elements.
-use Rattle.std.proofs.Common.{◌≡◌, ℕ, ◌+◌, ◌-◌, ◌<◌, ◌≤◌, min, List, [], ◌∷◌, ◌++◌, length, take, drop, replicate, sym, refl, ap, ◌∙◌, inl, inr, arith}
+use Rattle.std.proofs.Common.{◌≡◌, ℕ, ◌+◌, ◌-◌, ◌<◌, ◌≤◌, min, List, [], ◌++◌, length, take, drop, replicate, sym, refl, ap, ◌∙◌, inl, inr, arith}
 use lib.Seq.{paste}
 use Rattle.area.specs.declared.area.Area.{Area}
-use Rattle.area.specs.Areas.{cells, room, counted, filled, holding, appended, blanked}
+use Rattle.area.specs.Areas.{cells, room, counted, filled, appended, blanked}
 use Rattle.area.proofs.Holding.{take_within, held}
 use Rattle.std.proofs.lemmas.List.Edits.{paste_none, paste_all, paste-paste, length-paste, take-paste}
 use Rattle.std.proofs.lemmas.Bool.Decides.{leb_tells}
-use Rattle.std.proofs.lemmas.List.{append-nil, length-take, length-append, length-replicate, take_all, take-take, take-append-le, nil_from_length}
+use Rattle.std.proofs.lemmas.List.{append-nil, length-take, length-append, take_all, take-take, take-append-le, nil_from_length}
 
 -- nothing appended changes nothing
 pub appended_none : {X : Type 0} (a : Area X) → appended a [] ≡ a

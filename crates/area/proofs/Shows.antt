@@ -1,12 +1,12 @@
 -- What an area shows, as values, before and after each call.
-use Rattle.std.proofs.Common.{◌≡◌, ℕ, zero, suc, ◌+◌, ◌-◌, ◌<◌, ◌≤◌, min, Bool, true, false, cond, leb, ◌⊎◌, List, [], ◌∷◌, ◌++◌, map, length, take, drop, replicate, sym, refl, ap, ◌∙◌, inl, inr, arith, le-leb}
+use Rattle.std.proofs.Common.{◌≡◌, ℕ, zero, suc, ◌+◌, ◌-◌, ◌≤◌, min, Bool, true, false, cond, leb, List, [], ◌∷◌, ◌++◌, map, length, take, drop, replicate, sym, refl, ap, ◌∙◌, inl, inr, arith, le-leb}
 use lib.Seq.{paste}
 use borrow.Author.Tests.{lt-leb}
 use Rattle.area.specs.declared.area.Area.{Area}
-use Rattle.area.specs.Areas.{cells, room, counted, filled, holding, appended, blanked}
+use Rattle.area.specs.Areas.{cells, room, counted, filled, appended, blanked}
 use Rattle.area.specs.Val.{Val}
 use Rattle.area.specs.Buffers.{longest}
-use Rattle.area.specs.Lent.{Lent, lent, more, free, has_room, held_count, set_back}
+use Rattle.area.specs.Lent.{Lent, lent, more, free, has_room, set_back}
 use Rattle.area.proofs.Appending.{appended_none}
 use Rattle.area.proofs.Holding.{take_within}
 use Rattle.std.proofs.lemmas.List.Edits.{take-paste, drop-paste}

@@ -1,5 +1,5 @@
 -- A column file by its parts.
-use Rattle.std.proofs.Common.{◌≡◌, ℕ, ◌-◌, ◌≤◌, cond, ltb, List, length, get_or, take, drop, Ok, Err, Result, sym, refl, ap, ◌∙◌, le-ltb}
+use Rattle.std.proofs.Common.{◌≡◌, ℕ, ◌-◌, ◌≤◌, cond, List, length, get_or, take, drop, Ok, Err, Result, sym, ap, ◌∙◌, le-ltb}
 use Rattle.std.proofs.lemmas.List.{take_rest}
 use Rattle.page.specs.declared.fault.MakingFault.{MakingFault}
 use Rattle.page.specs.declared.fault.MakingFault.TheVariants.{FileTooShort}

@@ -1,5 +1,5 @@
 -- The column file: one byte repetition maximum, one byte definition maximum, one byte type, four bytes strip length, strip, data.
-use Rattle.std.specs.Prelude.{ℕ, ◌-◌, cond, List, length, take, drop, Ok, Err, Result, ◌==◌, nat_lt, slice_index}
+use Rattle.std.specs.Prelude.{ℕ, cond, List, length, take, drop, Ok, Err, Result, ◌==◌, nat_lt, slice_index}
 use Rattle.std.specs.Borrow.{Bor}
 use Rattle.page.specs.declared.fault.MakingFault.{MakingFault}
 use Rattle.page.specs.declared.fault.MakingFault.TheVariants.{FileTooShort, FileType, FileStrip}

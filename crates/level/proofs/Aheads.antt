@@ -1,7 +1,7 @@
 -- Laws of levels that were read ahead.
-use Rattle.std.proofs.Common.{◌≡◌, ℕ, zero, suc, ◌+◌, ◌-◌, ◌<◌, ◌≤◌, min, Bool, true, false, cond, ◌&&◌, eqb, ltb, List, [], ◌∷◌, ◌++◌, map, length, get_or, take, drop, set, sym, refl, ap, ◌∙◌, inl, inr, arith}
+use Rattle.std.proofs.Common.{◌≡◌, ℕ, ◌+◌, ◌-◌, ◌<◌, ◌≤◌, min, Bool, cond, ◌&&◌, List, [], ◌∷◌, ◌++◌, map, length, get_or, take, drop, set, sym, refl, ap, ◌∙◌, inl, inr, arith}
 use borrow.Rule.Slice.PartMut.{put_mid}
-use Rattle.std.proofs.lemmas.List.{append-nil, append_assoc, map-append, map_push, take_more, take_more_set, take_all, take-take, take-append-le, take-append-drop, drop-append-le, drop_all, drop-drop, drop-take, length-append, length-map, length-take, length-drop, nil_from_length}
+use Rattle.std.proofs.lemmas.List.{append-nil, map-append, map_push, take_more, take_more_set, take_all, take-take, take-append-le, take-append-drop, drop-append-le, drop_all, drop-drop, drop-take, length-append, length-map, length-take, length-drop, nil_from_length}
 use Rattle.std.proofs.lemmas.Bool.{cases_lt, lt-ltb}
 use Rattle.stream.specs.Streams.{Stream, End, ended, clean, fault}
 use Rattle.run.specs.Reading.{is_fault, fails, given, after, onto}

@@ -1,6 +1,5 @@
 -- Decoders that mean the same, and calls that add up.
-use Rattle.std.proofs.Common.{◌≡◌, ℕ, ◌+◌, ◌-◌, ◌<◌, ◌≤◌, min, Bool, true, false, cond, eqb, List, ◌++◌, length, take, drop, pos, sym, refl, ap, ◌∙◌, inl, inr, arith}
-use Rattle.std.proofs.lemmas.List.{length-drop}
+use Rattle.std.proofs.Common.{◌≡◌, ℕ, ◌+◌, Bool, false, eqb, take, drop, pos, sym, ap, ◌∙◌, inl, inr, arith}
 use Rattle.std.proofs.lemmas.Bool.{cases_Bool, cond-true, cond-false}
 use Rattle.stream.specs.Streams.{Stream}
 use Rattle.run.specs.Coming.{to_come}
@@ -11,7 +10,7 @@ use Rattle.level.specs.Courses.{broken, equal_to, reply, left, open_after, area_
 use Rattle.level.specs.Levels.{level}
 use Rattle.level.specs.Lookahead.{coming}
 use Rattle.level.specs.Records.{rep_course}
-use Rattle.level.specs.Theorems.{SameRep, RepAlike, SameDef, DefAlike, Added, Adds}
+use Rattle.level.specs.Theorems.{SameRep, RepAlike, DefAlike, Adds}
 use Rattle.level.proofs.Counts.{equal_append, take_both}
 use Rattle.level.proofs.Taking.{there_fails, there_rest, after_after}
 

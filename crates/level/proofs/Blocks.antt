@@ -1,11 +1,11 @@
 -- Laws of blocks of levels.
-use Rattle.std.proofs.Common.{◌≡◌, ℕ, zero, suc, ◌+◌, ◌-◌, ◌<◌, ◌≤◌, min, Bool, true, false, cond, ◌&&◌, ltb, List, [], ◌∷◌, ◌++◌, map, length, take, drop, Ok, Err, Result, sym, refl, ap, ◌∙◌, inl, inr, arith}
-use Rattle.std.proofs.lemmas.List.{append-nil, drop_all, take_all, take_at, length-take, length-drop, nil_from_length}
+use Rattle.std.proofs.Common.{◌≡◌, ℕ, ◌+◌, ◌-◌, ◌<◌, ◌≤◌, Bool, true, false, ◌&&◌, ltb, List, [], map, length, take, drop, Ok, Err, Result, sym, refl, ap, ◌∙◌, inl, inr, arith}
+use Rattle.std.proofs.lemmas.List.{drop_all, take_at, length-take, length-drop, nil_from_length}
 use Rattle.std.proofs.lemmas.Bool.{ltb-true, ltb-false, and_parts, cases_Bool, cond-true, cond-false}
 use Rattle.stream.specs.Streams.{Stream, End, ended, clean, fault}
 use Rattle.run.specs.declared.kind.StreamFault.{StreamFault}
 use Rattle.run.specs.Reading.{is_fault, fails, given, after, rest, filled, replied}
-use Rattle.level.proofs.Counts.{ok_fails, ok_given, err_fails, map_same}
+use Rattle.level.proofs.Counts.{ok_fails, err_fails, map_same}
 use Rattle.level.proofs.Taking.{after_after}
 
 fault_is : (e : End) → is_fault e ≡ true → e ≡ fault

@@ -1,5 +1,5 @@
 -- Laws of counting levels.
-use Rattle.std.proofs.Common.{◌≡◌, ℕ, zero, suc, ◌+◌, ◌-◌, ◌<◌, ◌≤◌, min, Bool, true, false, cond, eqb, List, [], ◌∷◌, ◌++◌, map, length, get_or, take, drop, Ok, Err, Result, sym, refl, ap, ◌∙◌, inl, inr, arith}
+use Rattle.std.proofs.Common.{◌≡◌, ℕ, ◌+◌, ◌-◌, ◌<◌, ◌≤◌, Bool, true, false, cond, eqb, List, [], ◌∷◌, ◌++◌, map, length, get_or, take, drop, Ok, Err, Result, sym, refl, ap, ◌∙◌, inl, inr, arith}
 use borrow.Rule.Slice.PartMut.{put_mid}
 use Rattle.std.proofs.lemmas.List.{take_more, take_all, take-append-drop, take-take, drop-take, length-take, length-drop, length-append}
 use Rattle.std.proofs.lemmas.Bool.{eq-eqb, ne_eqb, cases_Bool, cond-true, cond-false}
@@ -7,7 +7,6 @@ use Rattle.stream.specs.Streams.{Stream}
 use Rattle.run.specs.Reading.{after, fails, given, replied}
 use Rattle.run.specs.declared.kind.StreamFault.{StreamFault}
 use Rattle.area.proofs.Holding.{take_within}
-use Rattle.level.specs.declared.course.Course.{Course}
 use Rattle.level.specs.Courses.{equal_to, broken, def_course}
 
 pub equal_append : (m : ℕ) (xs ys : List ℕ) → equal_to m (xs ++ ys) ≡ equal_to m xs + equal_to m ys

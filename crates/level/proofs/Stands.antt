@@ -1,9 +1,9 @@
 -- Laws of a call for records, a block at a time.
-use Rattle.std.proofs.Common.{◌≡◌, ℕ, zero, suc, ◌+◌, ◌-◌, ◌<◌, ◌≤◌, min, Bool, true, false, cond, not, ◌&&◌, ◌||◌, eqb, ltb, List, [], ◌∷◌, ◌++◌, length, take, drop, sym, refl, ap, ◌∙◌, inl, inr, arith}
-use Rattle.std.proofs.lemmas.List.{take_all, length-take, length-drop, drop-drop}
-use Rattle.std.proofs.lemmas.Bool.{lt-ltb, eq-eqb, and_from, and_right, cases_Bool, cond-true, cond-false, cond_both, ne_eqb}
-use Rattle.stream.specs.Streams.{Stream, End, ended, clean, fault}
-use Rattle.run.specs.Reading.{is_fault, fails, given, after}
+use Rattle.std.proofs.Common.{◌≡◌, ℕ, ◌+◌, ◌-◌, ◌<◌, ◌≤◌, Bool, true, false, not, ◌&&◌, ◌||◌, eqb, ltb, List, [], ◌++◌, length, take, drop, sym, refl, ap, ◌∙◌, arith}
+use Rattle.std.proofs.lemmas.List.{take_all, length-take, length-drop}
+use Rattle.std.proofs.lemmas.Bool.{lt-ltb, eq-eqb, and_from, and_right, cond-true, cond-false, cond_both, ne_eqb}
+use Rattle.stream.specs.Streams.{Stream, ended, clean, fault}
+use Rattle.run.specs.Reading.{is_fault, fails, after}
 use Rattle.level.specs.declared.walk.Walk.{Walk}
 use Rattle.level.specs.declared.course.Course.{Course}
 use Rattle.level.specs.Courses.{broken}

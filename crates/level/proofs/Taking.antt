@@ -1,16 +1,15 @@
 -- Laws of calls for levels that are there, and of what a call comes to.
-use Rattle.std.proofs.Common.{◌≡◌, ℕ, ◌+◌, ◌-◌, ◌<◌, ◌≤◌, min, Bool, true, false, cond, ◌&&◌, ◌||◌, eqb, ltb, List, [], ◌∷◌, ◌++◌, map, length, take, drop, Ok, Err, Result, sym, refl, ap, ◌∙◌, arith}
+use Rattle.std.proofs.Common.{◌≡◌, ℕ, ◌+◌, ◌-◌, ◌≤◌, min, true, false, ltb, List, [], ◌++◌, map, length, take, drop, Ok, sym, ap, ◌∙◌, arith}
 use borrow.Rule.Slice.PartMut.{put_mid}
 use Rattle.std.proofs.lemmas.List.{append-nil, drop_all, drop-drop, length-map, length-take, length-drop}
-use Rattle.std.proofs.lemmas.Bool.{le-ltb, and_left, and_right, or_parts, cond-true, cond-false}
+use Rattle.std.proofs.lemmas.Bool.{le-ltb, and_left, cond-true, cond-false}
 use Rattle.stream.specs.Streams.{Stream, ended, clean}
-use Rattle.run.specs.Reading.{is_fault, fails, given, after, rest, filled}
+use Rattle.run.specs.Reading.{is_fault, fails, after, rest, filled}
 use Rattle.area.specs.declared.area.Area.{Area}
 use Rattle.area.specs.Areas.{cells, counted, room, holding, appended, advanced, blanked}
 use Rattle.area.proofs.Holding.{lent_part}
-use Rattle.level.specs.declared.refusal.LevelRefusal.{LevelRefusal}
 use Rattle.level.specs.declared.course.Course.{Course}
-use Rattle.level.specs.Courses.{no_room, refused, refusal, reply, left, area_after}
+use Rattle.level.specs.Courses.{refused, refusal, reply, left, area_after}
 
 pub there_fails : (n : ℕ) (s : Stream) → n ≤ length s.numbers → fails n s ≡ false
 there_fails n s h = and_left (ltb (length s.numbers) n) (is_fault s.end) (le-ltb (length s.numbers) n h)

@@ -1,5 +1,5 @@
 -- What a call for levels replies and leaves, as a function of the levels to come, the open record and the area's room.
-use Rattle.std.specs.Prelude.{ℕ, ◌+◌, min, Bool, true, false, cond, ◌&&◌, ◌||◌, List, [], ◌∷◌, map, length, take, Ok, Err, Result, ◌==◌, nat_lt}
+use Rattle.std.specs.Prelude.{ℕ, ◌+◌, min, Bool, true, false, cond, ◌&&◌, ◌||◌, List, [], ◌∷◌, map, take, Ok, Err, Result, ◌==◌, nat_lt}
 use Rattle.stream.specs.Streams.{Stream, ended, clean}
 use Rattle.run.specs.Reading.{fails, given, after}
 use Rattle.area.specs.declared.area.Area.{Area}

@@ -4,7 +4,7 @@ use Rattle.page.specs.declared.page.PageMetadata.{PageMetadata}
 use Rattle.page.specs.declared.list.ListedPage.{ListedPage}
 use Rattle.page.specs.declared.list.ListError.{ListError}
 use Rattle.page.specs.declared.list.ListError.TheVariants.{Source, NoMemory}
-use Rattle.page.specs.Coming.{Coming, ToCome, Contents, contents_of, metadata, PagesEnd, clean, fault}
+use Rattle.page.specs.Coming.{Coming, ToCome, Contents, contents_of, metadata, clean, fault}
 
 -- a page with what a peek tells of it
 pub record Listed : Type 0 where

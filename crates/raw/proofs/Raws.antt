@@ -1,9 +1,9 @@
 -- Raw values by their next page.
-use Rattle.std.proofs.Common.{◌≡◌, ℕ, zero, suc, ◌+◌, ◌-◌, ◌*◌, ◌/◌, ◌<◌, ◌≤◌, min, List, [], ◌∷◌, length, take, drop, Some, sym, refl, ap, ◌∙◌, inl, inr, arith, take_all}
+use Rattle.std.proofs.Common.{◌≡◌, ℕ, suc, ◌+◌, ◌-◌, ◌*◌, ◌/◌, ◌<◌, ◌≤◌, min, List, [], ◌∷◌, length, take, drop, Some, sym, ap, ◌∙◌, inl, inr, arith, take_all}
 use native.Mathlib.Nat.{add-div_right, div-eq_of_lt}
-use Rattle.std.proofs.lemmas.List.{drop_all, drop-drop, length-drop, length-take}
+use Rattle.std.proofs.lemmas.List.{drop-drop, length-drop, length-take}
 use Rattle.std.proofs.lemmas.Bool.{cases_lt}
-use Rattle.page.specs.Coming.{Coming, ToCome, clean}
+use Rattle.page.specs.Coming.{ToCome, clean}
 use Rattle.raw.specs.declared.Raw.{Raw}
 use Rattle.raw.specs.declared.Width.{Width}
 use Rattle.raw.specs.declared.Width.TheVariants.{Four, Eight}

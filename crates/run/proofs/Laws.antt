@@ -1,10 +1,10 @@
 -- Laws of packed numbers.
-use Rattle.std.proofs.Common.{◌≡◌, ℕ, zero, suc, ◌+◌, ◌-◌, ◌*◌, ◌/◌, ◌%◌, ◌^◌, ◌<◌, ◌≤◌, List, [], ◌∷◌, ◌++◌, map, length, get_or, take, drop, set, sym, refl, ap, ◌∙◌, mul-le-mul_right, mul_assoc, suc-mul, mul_comm, add-mul, zero-mul, mul-add, div-mul-le_self, div-one, add-one, arith, pow_pos, pow-add}
+use Rattle.std.proofs.Common.{◌≡◌, ℕ, zero, suc, ◌+◌, ◌-◌, ◌*◌, ◌/◌, ◌%◌, ◌^◌, ◌<◌, ◌≤◌, List, [], ◌∷◌, ◌++◌, map, length, get_or, take, drop, set, sym, refl, ap, ◌∙◌, mul-le-mul_right, mul_assoc, suc-mul, mul_comm, add-mul, zero-mul, div-mul-le_self, div-one, arith, pow_pos, pow-add}
 use native.Mathlib.Nat.{add-mul-mod_self_left, add-mul-div_left, div-eq_of_lt}
 use lib.Bits.{bit_and}
 use Rattle.std.proofs.lemmas.Nat.{shr-shr, and_mask, one_shl}
-use Rattle.std.proofs.lemmas.List.{drop_all, drop-append-le, append_assoc, take_all, take_more_set, map_push, get_or-drop, length-append}
-use Rattle.stream.specs.Packing.{le, be, from_below, low_first}
+use Rattle.std.proofs.lemmas.List.{drop_all, drop-append-le, take_all, take_more_set, map_push, get_or-drop}
+use Rattle.stream.specs.Packing.{le, from_below, low_first}
 use Rattle.run.specs.Packed.{lows}
 
 -- every byte is below 256

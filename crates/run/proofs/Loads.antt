@@ -1,9 +1,9 @@
 -- Laws of going on to the next run.
-use Rattle.std.proofs.Common.{◌≡◌, ℕ, zero, suc, ◌+◌, ◌-◌, ◌*◌, ◌/◌, ◌%◌, ◌^◌, ◌<◌, ◌≤◌, Bool, true, false, cond, leb, List, [], ◌∷◌, ◌++◌, length, take, drop, replicate, sym, refl, ap, ◌∙◌, inl, inr, mul-le-mul_right, mul_assoc, mul_comm, zero-add, zero-mul, div-mul-le_self, arith}
+use Rattle.std.proofs.Common.{◌≡◌, ℕ, zero, suc, ◌+◌, ◌-◌, ◌*◌, ◌/◌, ◌<◌, ◌≤◌, cond, leb, List, [], length, take, drop, replicate, sym, ap, ◌∙◌, inl, inr, mul_assoc, mul_comm, zero-add, zero-mul, div-mul-le_self, arith}
 use Rattle.std.proofs.lemmas.Nat.{div_below}
 use Rattle.std.proofs.lemmas.List.{take_rest, drop-drop, length-drop, drop_all, nil_from_length}
 use Rattle.std.proofs.lemmas.Bool.{le-leb, lt-leb, cond-true, cond-false, cases_lt}
-use Rattle.stream.specs.Packing.{le, low_first}
+use Rattle.stream.specs.Packing.{low_first}
 use Rattle.stream.specs.Streams.{Stream, ended, clean, fault, within, value_bytes, header, start, hybrid, hybrid_from}
 use Rattle.stream.specs.declared.header.Header.TheVariants.{Cut, Long, Is}
 use Rattle.stream.specs.declared.header.Start.TheVariants.{Over, TooLong, NoValue, Repeated, Packed}

@@ -1,9 +1,9 @@
 -- Laws of a reader at the start of a stream.
-use Rattle.std.proofs.Common.{◌≡◌, ℕ, zero, suc, ◌+◌, ◌-◌, ◌*◌, ◌/◌, ◌<◌, ◌≤◌, ltb, List, [], length, take, drop, sym, refl, ap, ◌∙◌, mul-le-mul_right, zero-add, arith}
+use Rattle.std.proofs.Common.{◌≡◌, ℕ, zero, suc, ◌-◌, ◌*◌, ◌/◌, ◌<◌, ◌≤◌, ltb, List, [], length, take, drop, sym, ap, ◌∙◌, zero-add, arith}
 use Rattle.std.proofs.lemmas.Nat.{le-div}
 use Rattle.std.proofs.lemmas.List.{take_rest, drop_all}
 use Rattle.std.proofs.lemmas.Bool.{lt-ltb, le-ltb, cond-true, cond-false}
-use Rattle.stream.specs.Packing.{be, high_first}
+use Rattle.stream.specs.Packing.{high_first}
 use Rattle.stream.specs.Streams.{ended, clean, fault, within, hybrid, bit_packed, longest}
 use Rattle.run.specs.Packed.{highs}
 

@@ -1,8 +1,8 @@
 -- Laws of parts of packed numbers, in either order.
-use Rattle.std.proofs.Common.{◌≡◌, ℕ, zero, suc, ◌+◌, ◌-◌, ◌*◌, ◌/◌, ◌%◌, ◌^◌, ◌<◌, ◌≤◌, List, [], ◌∷◌, ◌++◌, map, length, get_or, take, drop, set, sym, refl, ap, ◌∙◌, arith}
+use Rattle.std.proofs.Common.{◌≡◌, ℕ, zero, suc, ◌+◌, ◌-◌, ◌*◌, ◌%◌, ◌^◌, ◌<◌, ◌≤◌, List, [], ◌∷◌, ◌++◌, map, length, get_or, take, drop, set, sym, refl, ap, ◌∙◌, arith}
 use native.Mathlib.Nat.{mod-one}
 use Rattle.std.proofs.lemmas.List.{append_assoc, drop-append-le, drop_at, drop-drop, drop_more, length-append, length-drop, length-map, length-take, length-take-le, map-append, map_more, set_at, take_all, take-append-drop, take-append-le, take_at}
-use Rattle.stream.specs.Packing.{le, be, from_below, low_first, from_above, high_first}
+use Rattle.stream.specs.Packing.{le, be, low_first, high_first}
 use Rattle.run.specs.declared.order.Order.{Order}
 use Rattle.run.specs.declared.order.Order.TheVariants.{LowFirst, HighFirst}
 use Rattle.run.specs.Packed.{part, good}

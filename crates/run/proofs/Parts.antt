@@ -1,6 +1,6 @@
 -- Laws of the numbers of a run.
-use Rattle.std.proofs.Common.{◌≡◌, ℕ, zero, suc, ◌+◌, ◌-◌, ◌*◌, ◌/◌, ◌%◌, ◌^◌, ◌<◌, ◌≤◌, Bool, true, false, cond, ltb, leb, List, [], ◌∷◌, ◌++◌, length, get_or, take, drop, replicate, sym, refl, ap, ◌∙◌, mul-le-mul_right, mod-lt, arith, pow_pos, le-ltb, lt-ltb, le-leb, leb-true}
-use Rattle.std.proofs.lemmas.List.{length-replicate, replicate-append-replicate, get_or-replicate, length-drop, get_or-drop}
+use Rattle.std.proofs.Common.{◌≡◌, ℕ, zero, suc, ◌+◌, ◌-◌, ◌*◌, ◌/◌, ◌^◌, ◌<◌, ◌≤◌, true, cond, List, ◌++◌, length, get_or, replicate, sym, refl, ap, ◌∙◌, mul-le-mul_right, mod-lt, arith, pow_pos, le-ltb, leb-true}
+use Rattle.std.proofs.lemmas.List.{length-replicate, replicate-append-replicate, get_or-replicate, get_or-drop}
 use Rattle.stream.specs.Packing.{le, be, from_below, from_above, low_first, high_first}
 use Rattle.run.specs.declared.order.Order.{Order}
 use Rattle.run.specs.declared.order.Order.TheVariants.{LowFirst, HighFirst}

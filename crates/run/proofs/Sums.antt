@@ -1,9 +1,8 @@
 -- Two calls are one.
-use Rattle.std.proofs.Common.{◌≡◌, ℕ, ◌+◌, ◌-◌, ◌<◌, ◌≤◌, min, Bool, true, false, cond, ◌&&◌, ltb, List, ◌++◌, length, take, drop, sym, ap, ◌∙◌, inl, inr, arith}
-use Rattle.std.proofs.lemmas.List.{length-drop, length-take-le, drop-drop, drop-take, take-append-drop, take-take}
+use Rattle.std.proofs.Common.{◌≡◌, ℕ, ◌+◌, ◌-◌, ◌<◌, ◌≤◌, min, false, ◌&&◌, ltb, List, ◌++◌, length, take, drop, sym, ap, ◌∙◌, inl, inr, arith}
+use Rattle.std.proofs.lemmas.List.{length-drop, drop-drop, drop-take, take-append-drop, take-take}
 use Rattle.std.proofs.lemmas.Bool.{lt-ltb, le-ltb, cond-false, and_left, cases_lt}
-use Rattle.stream.specs.Streams.{Stream}
-use Rattle.run.specs.Reading.{is_fault, fails, after, rest, Added, Adds}
+use Rattle.run.specs.Reading.{is_fault, fails, after, rest, Adds}
 
 ltb_shift : (k l n m : ℕ) → k ≡ l - n → n ≤ l → ltb l (n + m) ≡ ltb k m
 ltb_shift k l n m e h =

@@ -1,5 +1,5 @@
 -- Where a group that one word holds lies.
-use Rattle.std.proofs.Common.{◌≡◌, ℕ, suc, ◌+◌, ◌-◌, ◌*◌, ◌/◌, ◌%◌, ◌<◌, ◌≤◌, ap, ◌∙◌, mul-le-mul_right, mul_assoc, suc-mul, add-mul, div-mul-le_self, arith}
+use Rattle.std.proofs.Common.{◌≡◌, ℕ, suc, ◌+◌, ◌-◌, ◌*◌, ◌/◌, ◌%◌, ◌<◌, ◌≤◌, ap, mul-le-mul_right, mul_assoc, suc-mul, add-mul, div-mul-le_self, arith}
 
 -- the word lies in the bytes
 pub word_in : (st g n w l : ℕ) → g < n → 0 < w → n ≤ (l - st - 8) / w → st + 8 ≤ l → st + g * w + 8 ≤ l

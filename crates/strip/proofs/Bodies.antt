@@ -1,11 +1,11 @@
 -- Records by their kind and their body.
-use Rattle.std.proofs.Common.{◌≡◌, ℕ, ◌+◌, ◌-◌, ◌<◌, ◌≤◌, Bool, cond, eqb, ltb, List, [], ◌∷◌, length, get_or, take, drop, sym, refl, ap, ◌∙◌, arith, le-ltb, eq-eqb}
+use Rattle.std.proofs.Common.{◌≡◌, ℕ, ◌-◌, ◌<◌, ◌≤◌, cond, List, [], ◌∷◌, length, get_or, take, drop, sym, ap, ◌∙◌, arith, le-ltb}
 use Rattle.std.proofs.lemmas.List.{take_rest}
-use Rattle.page.specs.declared.fault.SourceFault.TheVariants.{UnknownKind, CutRecord}
+use Rattle.page.specs.declared.fault.SourceFault.TheVariants.{CutRecord}
 use Rattle.strip.specs.declared.record.Record.{Record}
 use Rattle.strip.specs.declared.record.Record.TheVariants.{Dictionary, V1, V2}
-use Rattle.strip.specs.Strip.{Front, broken, whole, body, front, dictionary_body, v1_body, v2_body}
-use Rattle.strip.specs.Records.{First, first, refused, behind, first_of}
+use Rattle.strip.specs.Strip.{broken, whole, body, front, dictionary_body, v1_body, v2_body}
+use Rattle.strip.specs.Records.{first, behind, first_of}
 
 -- a body of n bytes and more is there whole
 pub body_is : (s : List ℕ) (n : ℕ) (r t : Record) → n ≤ length s → r ≡ t

@@ -10,7 +10,7 @@ use Rattle.strip.specs.declared.record.Taken.{Taken}
 use Rattle.strip.specs.declared.record.Taken.TheVariants.{End, Broken, Took}
 use Rattle.strip.specs.declared.record.Cut.{Cut}
 use Rattle.page.specs.Coming.{Coming, clean, fault, Contents, contents_of, metadata, Answer, none, some, bad}
-use Rattle.strip.specs.Strip.{Front, broken, whole, front, page_in, strip_told, then_pages, strip_pages}
+use Rattle.strip.specs.Strip.{Front, broken, whole, front, strip_told, then_pages, strip_pages}
 
 -- the first record and the bytes behind it, if the strip has not ended
 pub data First : Type 0 where

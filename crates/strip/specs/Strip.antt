@@ -1,5 +1,5 @@
 -- What the bytes of a strip mean over its data.
-use Rattle.std.specs.Prelude.{ℕ, zero, suc, ◌+◌, cond, List, [], ◌∷◌, length, take, drop, Some, None, Ok, Err, Option, Result, ◌==◌, nat_le, nat_lt, slice_index}
+use Rattle.std.specs.Prelude.{ℕ, zero, suc, ◌+◌, cond, List, [], ◌∷◌, length, take, drop, Some, None, Ok, Err, Result, ◌==◌, nat_le, nat_lt, slice_index}
 use Rattle.page.specs.declared.fault.SourceFault.{SourceFault}
 use Rattle.page.specs.declared.fault.SourceFault.TheVariants.{UnknownKind, CutRecord, OutsideData}
 use Rattle.page.specs.declared.fault.MakingFault.{MakingFault}
@@ -8,7 +8,7 @@ use Rattle.strip.specs.declared.source.Strip.{Strip}
 use Rattle.strip.specs.declared.record.Record.{Record}
 use Rattle.strip.specs.declared.record.Record.TheVariants.{Dictionary, V1, V2}
 use Rattle.page.specs.Bytes.{le4}
-use Rattle.page.specs.Coming.{Coming, ToCome, Told, Contents, dictionary, v1, v2, PagesEnd, clean, fault}
+use Rattle.page.specs.Coming.{Coming, Told, Contents, dictionary, v1, v2, clean, fault}
 
 -- what stands in front of a strip: a broken record, or one and the number of bytes in its body
 pub data Front : Type 0 where

@@ -1,5 +1,5 @@
 -- Values to come.
-use Rattle.std.specs.Prelude.{Bool, true, false, cond, ◌&&◌, List, [], ℕ, ◌-◌, ltb, length, take, drop}
+use Rattle.std.specs.Prelude.{List, [], ℕ, drop}
 use Rattle.value_fault.specs.declared.fault.ValueFault.{ValueFault}
 
 -- how values end: there are no more, or the next one has this fault

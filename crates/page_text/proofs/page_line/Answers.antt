@@ -1,4 +1,4 @@
-use Rattle.std.proofs.Common.{◌≡◌, List, length, string_bytes, codes, sym, ap, ◌∙◌}
+use Rattle.std.proofs.Common.{length, string_bytes, codes, sym, ap, ◌∙◌}
 use Rattle.page.specs.Coming.{contents_of}
 use Rattle.page_text.specs.Text.{page_as_text, line_text}
 use Rattle.page_text.proofs.Texts.{made_same}

@@ -1,4 +1,4 @@
-use Rattle.std.proofs.Common.{◌≡◌, ℕ, ◌≤◌, length, sym, ap, ◌∙◌, arith}
+use Rattle.std.proofs.Common.{ℕ, sym, ap, ◌∙◌, arith}
 use Rattle.run.specs.Coming.{to_come}
 use Rattle.level.proofs.Stands.{rep_none, rep_some, walk_there, walk_within}
 use Rattle.level.proofs.block.rep_course.Goals as goal

@@ -1,10 +1,7 @@
-use Rattle.std.proofs.Common.{◌≡◌, ℕ, ◌+◌, ◌-◌, ◌<◌, ◌≤◌, List, length, take, drop, sym, ap, ◌∙◌, arith}
+use Rattle.std.proofs.Common.{◌≡◌, ℕ, ◌-◌, length, take, drop, sym, ◌∙◌, arith}
 use Rattle.std.proofs.lemmas.List.{length-drop, length-take}
-use Rattle.stream.specs.Streams.{Stream}
 use Rattle.run.specs.Coming.{to_come}
-use Rattle.level.specs.declared.walk.Walk.{Walk}
-use Rattle.level.specs.Records.{walk}
-use Rattle.level.proofs.Stands.{Stands, stands_none, stands_stop, stands_bad, stands_clean, stands_full, stands_more, stands_taken}
+use Rattle.level.proofs.Stands.{stands_none, stands_stop, stands_bad, stands_clean, stands_full, stands_more, stands_taken}
 use Rattle.level.proofs.block.walk_on.Goals as goal
 
 pub walks-init : goal.walks-init

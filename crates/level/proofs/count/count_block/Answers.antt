@@ -1,4 +1,4 @@
-use Rattle.std.proofs.Common.{◌≡◌, length, ap, ◌∙◌, arith}
+use Rattle.std.proofs.Common.{ap, ◌∙◌, arith}
 use Rattle.level.specs.Courses.{equal_to}
 use Rattle.level.proofs.Counts.{map_same}
 use Rattle.level.proofs.count.count_block.Goals as goal

@@ -1,4 +1,4 @@
-use Rattle.std.proofs.Common.{◌≡◌, sym, refl, ◌∙◌, arith}
+use Rattle.std.proofs.Common.{sym, refl, ◌∙◌, arith}
 use Rattle.level.specs.Levels.{level}
 use Rattle.level.specs.Lookahead.{coming}
 use Rattle.level.proofs.Aheads.{area_none}

@@ -1,4 +1,4 @@
-use Rattle.std.proofs.Common.{◌≡◌, ℕ, ◌+◌, ◌-◌, ◌<◌, ◌≤◌, min, Bool, true, false, cond, List, map, length, take, drop, pos, sym, ap, ◌∙◌, subst, arith}
+use Rattle.std.proofs.Common.{◌≡◌, ℕ, ◌+◌, ◌≤◌, min, Bool, true, false, cond, map, length, take, pos, sym, ap, ◌∙◌, arith}
 use Rattle.stream.specs.Streams.{Stream, ended, clean, fault}
 use Rattle.run.specs.Reading.{after}
 use Rattle.area.specs.Areas.{room, appended}
@@ -6,7 +6,7 @@ use Rattle.level.specs.Levels.{level}
 use Rattle.level.specs.Lookahead.{coming}
 use Rattle.level.specs.declared.walk.Walk.{Walk}
 use Rattle.level.proofs.Aheads.{area_none, area_more, area_back}
-use Rattle.level.proofs.Stands.{Stands, stands_to, stands_none, stands_stop, stands_more, stands_taken, here_full, here_bad, here_clean}
+use Rattle.level.proofs.Stands.{stands_to, stands_none, stands_stop, stands_more, stands_taken, here_full, here_bad, here_clean}
 use Rattle.level.proofs.Taking.{after_after}
 use Rattle.level.proofs.lookahead.walk_ahead.Goals as goal
 

@@ -1,10 +1,10 @@
-use Rattle.std.proofs.Common.{◌≡◌, ℕ, ◌+◌, ◌-◌, ◌≤◌, min, true, false, length, take, drop, sym, refl, ap, ◌∙◌, arith}
+use Rattle.std.proofs.Common.{◌≡◌, ℕ, ◌-◌, true, false, length, sym, ap, ◌∙◌, arith}
 use Rattle.std.proofs.lemmas.List.{length-drop}
 use Rattle.run.specs.Coming.{to_come}
 use Rattle.run.specs.Reading.{after}
-use Rattle.area.specs.Areas.{room, appended}
+use Rattle.area.specs.Areas.{room}
 use Rattle.level.specs.Courses.{refused}
-use Rattle.level.proofs.Taking.{refused_reply, refused_left, refused_area, taken_reply, taken_left, taken_area, after_front, front_is}
+use Rattle.level.proofs.Taking.{refused_reply, refused_left, refused_area, taken_reply, taken_left, after_front, front_is}
 use Rattle.level.proofs.take.deliver.Goals as goal
 
 pub skip_all-requires : goal.skip_all-requires

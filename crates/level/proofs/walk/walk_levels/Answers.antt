@@ -1,4 +1,4 @@
-use Rattle.std.proofs.Common.{◌≡◌, ℕ, ◌+◌, ◌-◌, ◌<◌, ◌≤◌, true, length, get_or, take, sym, refl, ap, ◌∙◌, subst, arith}
+use Rattle.std.proofs.Common.{ℕ, ◌+◌, true, sym, ◌∙◌, subst, arith}
 use Rattle.level.proofs.Walks.{At, at_start, at_stop, at_close, at_go, at_end}
 use Rattle.level.proofs.walk.walk_levels.Goals as goal
 use Rattle.level.proofs.walk.walk_levels.Goals.{then-closes+else-closed-q, else-closes}

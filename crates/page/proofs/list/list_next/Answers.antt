@@ -1,4 +1,4 @@
-use Rattle.std.proofs.Common.{◌≡◌, vec_items, sym, refl, ap, ◌∙◌}
+use Rattle.std.proofs.Common.{vec_items, refl, ap, ◌∙◌}
 use Rattle.page.specs.Coming.{Coming, contents_of}
 use Rattle.page.proofs.Listings.{one_listed, fewer_left}
 use Rattle.page.proofs.list.list_next.Goals as goal

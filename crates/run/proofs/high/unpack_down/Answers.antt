@@ -1,4 +1,4 @@
-use Rattle.std.proofs.Common.{◌≡◌, ℕ, ◌+◌, ◌*◌, ◌/◌, ◌%◌, ◌^◌, ◌<◌, ◌≤◌, List, map, length, sym, ap, ◌∙◌, mul-le-mul_right, arith}
+use Rattle.std.proofs.Common.{◌≡◌, ◌+◌, ◌≤◌, map, length, sym, ap, ◌∙◌, mul-le-mul_right, arith}
 use Rattle.std.proofs.lemmas.List.{take_all}
 use Rattle.run.specs.Packed.{highs}
 use Rattle.run.proofs.Highs.{highs_none, put_high}

@@ -1,4 +1,4 @@
-use Rattle.std.proofs.Common.{◌≡◌, length, get_or, sym, ◌∙◌, arith}
+use Rattle.std.proofs.Common.{◌≡◌, length, sym, ◌∙◌, arith}
 use Rattle.run.proofs.Goods.{good_more, good_stop, good_done, good_all}
 use Rattle.run.proofs.limit.first_at_least.Goals as goal
 

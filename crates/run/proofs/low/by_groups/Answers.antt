@@ -1,6 +1,5 @@
-use Rattle.std.proofs.Common.{◌≡◌, ℕ, ◌+◌, ◌*◌, ◌/◌, ◌%◌, ◌^◌, ◌<◌, ◌≤◌, List, [], ◌∷◌, ◌++◌, length, sym, ap, ◌∙◌, arith}
+use Rattle.std.proofs.Common.{ℕ, ◌+◌, ◌*◌, ◌/◌, ◌%◌, ◌^◌, List, length, sym, ap, ◌∙◌, arith}
 use Rattle.stream.specs.Packing.{le}
-use Rattle.run.specs.Packed.{lows}
 use Rattle.run.proofs.Laws.{put_low, group_in, group_place, low_field}
 use Rattle.run.proofs.low.by_groups.Goals as goal
 

@@ -1,4 +1,4 @@
-use Rattle.std.proofs.Common.{◌≡◌, List, map, length, sym, ap, ◌∙◌, arith}
+use Rattle.std.proofs.Common.{map, length, sym, ap, arith}
 use Rattle.run.proofs.Laws.{lows_none, all_low}
 use Rattle.run.proofs.low.unpack.Goals as goal
 

@@ -1,6 +1,6 @@
-use Rattle.std.proofs.Common.{◌≡◌, List, ap, ◌∙◌}
+use Rattle.std.proofs.Common.{ap, ◌∙◌}
 use Rattle.std.proofs.lemmas.List.{map-id}
-use Rattle.run.specs.Packed.{part, good}
+use Rattle.run.specs.Packed.{good}
 use Rattle.run.proofs.part.good_block.Goals as goal
 
 pub returns : goal.returns

@@ -1,4 +1,4 @@
-use Rattle.std.proofs.Common.{◌≡◌, ℕ, ◌+◌, ◌*◌, ◌/◌, ◌%◌, ◌^◌, ◌<◌, ◌≤◌, List, sym, ap, ◌∙◌, arith}
+use Rattle.std.proofs.Common.{ℕ, ◌*◌, ◌/◌, ◌%◌, arith}
 use Rattle.std.proofs.lemmas.Nat.{mul-le}
 use Rattle.run.proofs.Laws.{low_field}
 use Rattle.run.proofs.word.low_number.Goals as goal

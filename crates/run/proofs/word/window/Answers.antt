@@ -1,4 +1,4 @@
-use Rattle.std.proofs.Common.{sym, ◌∙◌, arith}
+use Rattle.std.proofs.Common.{arith}
 use Rattle.run.proofs.Laws.{le_eight_at}
 use Rattle.run.proofs.word.window.Goals as goal
 

@@ -1,4 +1,4 @@
-use Rattle.std.proofs.Common.{◌≡◌, sym, ap, ◌∙◌, arith, ltb-false, ltb-true, eqb-true}
+use Rattle.std.proofs.Common.{sym, ap, ◌∙◌, arith, ltb-false, ltb-true, eqb-true}
 use Rattle.std.proofs.lemmas.List.{take_rest}
 use Rattle.strip.specs.Strip.{dictionary_body, v1_body, v2_body}
 use Rattle.strip.specs.Records.{behind}

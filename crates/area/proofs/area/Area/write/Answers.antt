@@ -1,4 +1,4 @@
-use Rattle.std.proofs.Common.{length, refl, arith}
+use Rattle.std.proofs.Common.{length, refl}
 use Rattle.area.proofs.Holding.{append_is}
 use Rattle.area.proofs.area.Area.write.Goals as goal
 

@@ -1,4 +1,4 @@
-use Rattle.std.proofs.Common.{◌≡◌, ℕ, ◌-◌, ◌≤◌, min, List, map, take, ap, ◌∙◌, arith}
+use Rattle.std.proofs.Common.{◌≡◌, ℕ, min, List, map, take, ap, ◌∙◌, arith}
 use Rattle.run.specs.Coming.{to_come}
 use Rattle.area.specs.Areas.{room, appended}
 use Rattle.level.specs.Levels.{level}

@@ -1,4 +1,4 @@
-use Rattle.std.proofs.Common.{◌≡◌, ℕ, ◌≤◌, List, length, sym, refl, ◌∙◌, arith}
+use Rattle.std.proofs.Common.{ℕ, ◌≤◌, List, length, sym, refl, ◌∙◌, arith}
 use Rattle.run.specs.Coming.{to_come}
 use Rattle.level.proofs.Aheads.{held_there, held_none, filled_comes, filled_there, filled_over}
 use Rattle.level.proofs.ahead.Ahead.ready.Goals as goal

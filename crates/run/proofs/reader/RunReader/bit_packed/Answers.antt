@@ -1,7 +1,7 @@
-use Rattle.std.proofs.Common.{◌≡◌, ℕ, ◌+◌, ◌-◌, ◌*◌, ◌/◌, length, take, drop, sym, ap, ◌∙◌, arith}
+use Rattle.std.proofs.Common.{ℕ, ◌+◌, ◌-◌, ◌*◌, ◌/◌, length, take, drop, ap, ◌∙◌, arith}
 use Rattle.std.proofs.lemmas.Bool.{le-leb}
 use Rattle.run.proofs.Loads.{cut_fits}
-use Rattle.run.proofs.Opens.{nothing_behind, packed_none, packed_long, packed_vast, packed_some}
+use Rattle.run.proofs.Opens.{nothing_behind, packed_vast, packed_some}
 use Rattle.run.proofs.reader.RunReader.bit_packed.Goals as goal
 
 pub returns-then-bytes : goal.returns-then-bytes

@@ -1,5 +1,4 @@
-use Rattle.std.proofs.Common.{◌≡◌, ℕ, ◌+◌, ◌*◌, ◌%◌, ◌^◌, ◌≤◌, length, sym, ap, ◌∙◌, subst, arith}
-use Rattle.run.specs.Runs.{of_run}
+use Rattle.std.proofs.Common.{length, arith}
 use Rattle.run.proofs.Parts.{part_room}
 use Rattle.run.proofs.reader.RunReader.copy.Goals as goal
 

@@ -1,7 +1,6 @@
-use Rattle.std.proofs.Common.{◌≡◌, ℕ, ◌+◌, ◌-◌, ◌*◌, ◌/◌, ◌<◌, ◌≤◌, List, length, take, drop, sym, refl, ap, ◌∙◌, arith}
+use Rattle.std.proofs.Common.{◌≡◌, ℕ, ◌+◌, ◌-◌, ◌<◌, ◌≤◌, List, length, take, drop, sym, refl, ap, ◌∙◌, arith}
 use Rattle.std.proofs.lemmas.List.{length-take, length-drop}
-use Rattle.stream.specs.Streams.{hybrid, ended, clean}
-use Rattle.stream.proofs.Runs.{repeated_bounds, packed_bounds}
+use Rattle.stream.specs.Streams.{hybrid}
 use Rattle.run.specs.declared.reader.RunReader.{RunReader}
 use Rattle.run.specs.Coming.{to_come}
 use Rattle.run.proofs.Loads.{run_done, cut_next, long_next, over_next, too_long_next, no_value_next, repeated_next, packed_next}

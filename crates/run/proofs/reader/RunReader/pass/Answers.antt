@@ -1,9 +1,9 @@
-use Rattle.std.proofs.Common.{◌≡◌, ℕ, ◌+◌, ◌-◌, ◌<◌, ◌≤◌, ltb, sym, ap, ◌∙◌, arith, ltb-false, ltb-true}
+use Rattle.std.proofs.Common.{◌≡◌, ℕ, ◌≤◌, ltb, sym, ap, ◌∙◌, arith, ltb-false, ltb-true}
 use Rattle.stream.specs.Streams.{hybrid}
 use Rattle.run.specs.Packed.{good}
 use Rattle.run.proofs.Goods.{good_most}
 use Rattle.run.specs.declared.reader.RunReader.{RunReader}
-use Rattle.run.specs.Coming.{to_come, next_of}
+use Rattle.run.specs.Coming.{next_of}
 use Rattle.run.specs.Reading.{onto, unless}
 use Rattle.run.proofs.Parts.{run_length}
 use Rattle.run.proofs.Within.{pass_run}

@@ -1,4 +1,4 @@
-use Rattle.std.proofs.Common.{◌≡◌, ℕ, ◌+◌, ◌-◌, ◌<◌, ◌≤◌, ltb, List, ◌++◌, map, length, take, drop, sym, ap, ◌∙◌, arith, ltb-false, ltb-true}
+use Rattle.std.proofs.Common.{◌≡◌, ℕ, ◌+◌, ◌≤◌, ltb, ◌++◌, map, take, drop, sym, ap, ◌∙◌, arith, ltb-false, ltb-true}
 use Rattle.stream.specs.Streams.{hybrid}
 use Rattle.run.specs.declared.order.Order.{Order}
 use Rattle.run.specs.Packed.{good, part}
@@ -6,7 +6,7 @@ use Rattle.run.proofs.Goods.{good_most}
 use Rattle.run.specs.declared.reader.RunReader.{RunReader}
 use Rattle.run.specs.declared.kind.Run.TheVariants.{Packed}
 use Rattle.run.specs.Runs.{of_run}
-use Rattle.run.specs.Coming.{to_come, next_of}
+use Rattle.run.specs.Coming.{next_of}
 use Rattle.run.specs.Reading.{onto, unless}
 use Rattle.run.proofs.Parts.{run_length, part_room}
 use Rattle.run.proofs.Within.{pass_run}

@@ -41,8 +41,8 @@ pub data Varint : ℕ → List ℕ → Type 0 where
   byte_then : (b n : ℕ) (bs : List ℕ) → b < 128 → Varint n bs → Varint (b + 128 * n) ((128 + b) ∷ bs)
 
 -- The hybrid: runs one after another.
---   rle-run: a header of twice the count, then the value in `k` bytes, the width rounded up to whole bytes.
---   bit-packed-run: a header of twice the number of groups and one, then eight numbers for each group.
+--   rle_run: a header of twice the count, then the value in `k` bytes, the width rounded up to whole bytes.
+--   bit_packed_run: a header of twice the number of groups and one, then eight numbers for each group.
 -- A run has 1 to 2^31 - 1 numbers. That a header has at most ten bytes is our limit; it is enough for any such run.
 pub data Encodes (w : ℕ) : List ℕ → List ℕ → Type 0 where
   nothing : Encodes w [] []

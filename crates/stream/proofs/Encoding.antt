@@ -3,7 +3,7 @@ use Rattle.std.proofs.Common.{◌≡◌, ℕ, zero, suc, ◌+◌, ◌-◌, ◌*�
 use Rattle.std.proofs.lemmas.List.{append_assoc, length-append, drop-drop, drop_at, take_at, take-append-drop, length-take-le, length-drop}
 use Rattle.std.proofs.ByRecursion.{All-take, All-drop, All-append}
 use Rattle.std.proofs.lemmas.Bool.{lt-ltb, le-ltb, le-leb, eq-eqb, ne_eqb, leb-true, cond-true, cond-false, cases_lt, cases_Bool}
-use Rattle.std.specs.List.{AllByRecursion as All}
+use Rattle.std.specs.List.{AllByRecursion}
 use Rattle.stream.specs.Grammar.{Below, Fills, Varint, last_byte, byte_then, Encodes, nothing, rle_run, bit_packed_run}
 use Rattle.stream.specs.Packing.{le, low_first}
 use Rattle.stream.specs.Streams.{Run, repeated, packed, Stop, finished, header_zero, cut_header, cut_run, long_header, long_run, no_value, Runs, no_runs, then_runs, numbers_of, end_of, longest, value_bytes, over, header, run_length, groups, start, follow, runs_from, clean, hybrid}
@@ -187,7 +187,7 @@ reads w limit xs bs e h =
 
 -- Bytes that are runs to their end, none a packed run of no groups.
 abbrev pub RunsThrough : ℕ → List ℕ → Type 0
-RunsThrough w bs = (Below 256 bs) × ((runs_from w 0 bs).stop ≡ finished) × All HasNumbers (runs_from w 0 bs).runs
+RunsThrough w bs = (Below 256 bs) × ((runs_from w 0 bs).stop ≡ finished) × AllByRecursion HasNumbers (runs_from w 0 bs).runs
 
 -- They are an encoding of their numbers.
 abbrev pub Encoded : ℕ → List ℕ → Type 0
@@ -199,7 +199,7 @@ not_through w bs s t e other = absurd (other (sym (ap (λ r. r.stop) e) ∙ t.1)
 through_behind : (w : ℕ) (d rest : List ℕ) (r : Run) → RunsThrough w d → Below 256 rest → runs_from w 0 d ≡ then_runs r (runs_from w 0 rest)
     → (RunsThrough w rest) × HasNumbers r
 through_behind w d rest r t b e =
-    let a : All HasNumbers (r ∷ (runs_from w 0 rest).runs) = subst (λ x. All HasNumbers x.runs) e t.2 in
+    let a : AllByRecursion HasNumbers (r ∷ (runs_from w 0 rest).runs) = subst (λ x. AllByRecursion HasNumbers x.runs) e t.2 in
     ((b, sym (ap (λ x. x.stop) e) ∙ t.1, a.1), a.0)
 
 -- the bytes, cut behind the header and behind the run
@@ -298,7 +298,7 @@ pub encoded : EncodedWhereItReads
 encoded w limit bs b s runs clean_End =
     subst (λ xs. Encodes w xs bs) (sym (flow_clean limit (runs_from w 0 bs).runs (runs_from w 0 bs).stop clean_End)) (encoded_upto (length bs) w bs (omega arith) (b, s, runs))
 
-cases_numbers : (rs : List Run) → All HasNumbers rs ⊎ (All HasNumbers rs → ⊥)
+cases_numbers : (rs : List Run) → AllByRecursion HasNumbers rs ⊎ (AllByRecursion HasNumbers rs → ⊥)
 cases_numbers [] = inl tt
 cases_numbers (repeated n v ∷ rs) = elim (cases_numbers rs) [ inl h ↦ inl (tt, h) | inr h ↦ inr (λ a. h a.1) ]
 cases_numbers (packed [] ∷ rs) = inr (λ a. a.0)

@@ -1,6 +1,6 @@
 -- The format's grammar: which bytes stand for which numbers. It speaks of bits as lists, and shares no arithmetic with the definition of a stream.
 use Rattle.std.specs.Prelude.{◌≡◌, ℕ, zero, suc, ◌+◌, ◌*◌, ◌/◌, ◌%◌, ◌^◌, ◌<◌, ◌≤◌, List, [], ◌∷◌, ◌++◌, reverse, length, replicate}
-use Rattle.std.specs.List.{flat_map, AllByRecursion as All}
+use Rattle.std.specs.List.{flat_map, AllByRecursion}
 
 -- the `w` lowest bits of `x`, from the lowest up
 abbrev pub up : ℕ → ℕ → List ℕ
@@ -20,7 +20,7 @@ bits_down w xs = flat_map (down w) xs
 
 -- each is below `m`
 abbrev pub Below : ℕ → List ℕ → Type 0
-Below m xs = All (λ x. x < m) xs
+Below m xs = AllByRecursion (λ x. x < m) xs
 
 -- The numbers of `w` bits fill the bytes, from the lowest bit of each byte up.
 pub record Fills (w : ℕ) (xs bs : List ℕ) : Type 0 where

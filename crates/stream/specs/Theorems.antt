@@ -1,6 +1,6 @@
 -- What the definition of a stream and the format's grammar have to do with each other.
 use Rattle.std.specs.Prelude.{◌≡◌, ℕ, ◌*◌, ◌/◌, ◌^◌, ◌<◌, ◌≤◌, ◌⊎◌, List, [], ◌∷◌, ◌++◌, length}
-use Rattle.std.specs.List.{AllByRecursion as All}
+use Rattle.std.specs.List.{AllByRecursion}
 use Rattle.stream.specs.Grammar.{Below, Encodes, PacksDown}
 use Rattle.stream.specs.Streams.{clean, Run, repeated, packed, finished, header_zero, cut_header, cut_run, runs_from, hybrid, bit_packed}
 
@@ -17,7 +17,7 @@ HasNumbers (packed (x ∷ xs)) = Unit {0}
 -- And back: bytes that are runs to their very end, none a packed run of no groups, with no number at or above the limit, are an encoding of the numbers that are read from them.
 abbrev pub EncodedWhereItReads : Type 0
 EncodedWhereItReads =
-    (w limit : ℕ) (bs : List ℕ) → Below 256 bs → (runs_from w 0 bs).stop ≡ finished → All HasNumbers (runs_from w 0 bs).runs → (hybrid w limit bs).end ≡ clean
+    (w limit : ℕ) (bs : List ℕ) → Below 256 bs → (runs_from w 0 bs).stop ≡ finished → AllByRecursion HasNumbers (runs_from w 0 bs).runs → (hybrid w limit bs).end ≡ clean
     → Encodes w (hybrid w limit bs).numbers bs
 
 -- the four streams that are ours and not the format's, though they may end clean
@@ -25,7 +25,7 @@ pub data Ours (w : ℕ) (bs : List ℕ) : Type 0 where
   with_header_zero : (runs_from w 0 bs).stop ≡ header_zero → Ours w bs
   with_cut_header : (runs_from w 0 bs).stop ≡ cut_header → Ours w bs
   with_cut_run : (runs_from w 0 bs).stop ≡ cut_run → Ours w bs
-  with_no_groups : (All HasNumbers (runs_from w 0 bs).runs → ⊥) → Ours w bs
+  with_no_groups : (AllByRecursion HasNumbers (runs_from w 0 bs).runs → ⊥) → Ours w bs
 
 -- There are no others: any stream with a clean end is one of them, or lies in bytes that the grammar gives to its numbers.
 abbrev pub CleanIsEncodedOrOurs : Type 0

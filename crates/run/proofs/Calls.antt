@@ -1,22 +1,16 @@
 -- Laws of reading and skipping.
-use Rattle.std.proofs.Common.{◌≡◌, ℕ, ◌+◌, ◌-◌, ◌<◌, ◌≤◌, true, false, ltb, List, [], ◌++◌, map, length, take, drop, sym, refl, ap, ◌∙◌, arith}
+use Rattle.std.proofs.Common.{◌≡◌, ℕ, ◌+◌, ◌-◌, ◌<◌, ◌≤◌, min, inl, inr, true, false, ltb, List, [], ◌++◌, map, length, take, drop, sym, refl, ap, ◌∙◌, arith}
 use borrow.Rule.Slice.PartMut.{put_mid}
-use Rattle.std.proofs.lemmas.List.{append_assoc, append-nil, map-append, length-append, length-map, length-take, length-drop, take_at, take_all, drop_at, drop_all, drop-drop}
+use Rattle.std.proofs.lemmas.List.{take_rest, append_assoc, append-nil, map-append, length-append, length-map, length-take-le, length-drop, take_at, take_all, drop_at, drop_all, drop-drop}
 use Rattle.std.proofs.lemmas.Bool.{lt-ltb, le-ltb, and_left, and_right, and_from}
-use Rattle.stream.specs.Streams.{Stream, ended, clean, fault}
+use Rattle.stream.specs.Streams.{Stream, ended, clean, fault, within, hybrid}
 use Rattle.run.specs.declared.reader.RunReader.{RunReader}
-use Rattle.run.specs.Coming.{to_come, next_of}
-use Rattle.run.proofs.Parts.{run_length}
-use Rattle.run.specs.Reading.{is_fault, fails, given, after, filled, onto, Passes, Reads}
-
--- what a step wrote behind the first `at` places
-pub wrote_part : {X : Type 0} (f : ℕ → X) (L : ℕ → List ℕ) (at k : ℕ) (o ys : List X) → at + k ≤ length o
-    → ys ≡ map f (L (length (take ((at + k) - at) (drop at o)))) → put_mid at ((at + k) - at) o ys ≡ take at o ++ (map f (L k) ++ drop (at + k) o)
-wrote_part f L at k o ys h e =
-    let n : (at + k) - at ≡ k = omega arith in
-    let l : length (take ((at + k) - at) (drop at o)) ≡ k = simp (length-take, length-drop) (omega arith) in
-    ap (λ z. take at o ++ (z ++ drop ((at + k) - at) (drop at o))) (e ∙ ap (λ j. map f (L j)) l)
-    ∙ ap (λ z. take at o ++ (map f (L k) ++ z)) (drop-drop ((at + k) - at) at o ∙ ap (λ j. drop (at + j) o) n)
+use Rattle.run.specs.Coming.{to_come, next_of, Steps, Stopped}
+use Rattle.run.specs.declared.kind.Run.{Run}
+use Rattle.run.specs.Packed.{good}
+use Rattle.run.proofs.Within.{good_there, good_few, good_over, good_stops}
+use Rattle.run.specs.Runs.{left_of}
+use Rattle.run.specs.Reading.{is_fault, fails, given, after, filled, onto, Passes}
 
 -- a call so far: `k` numbers of the stream `s` stand in front of what the places `o` held
 pub record Got {X : Type 0} (f : ℕ → X) (s : Stream) (o : List X) (k : ℕ) (p : List X) (t : Stream) : Type 0 where
@@ -39,9 +33,30 @@ abbrev pub passes_to : (s t u : Stream) (k : ℕ) → Passes s k t → t ≡ u �
 passes_to s t u k a e = record { numbers = a.numbers; many = a.many; there = a.there ∙ ap (onto a.numbers) e }
 
 -- a step within a run
-abbrev pub passes_step : (r : RunReader) (s u : Stream) (k n : ℕ) → Passes s k (to_come r) → to_come r ≡ onto (next_of r n) u → Passes s (k + n) u
-passes_step r s u k n a e =
-    passes_more s (to_come r) u k n a (record { numbers = next_of r n; many = run_length r.run r.width.bits r.at n r.packed.now; there = e })
+abbrev pub passes_step : (s : Stream) (k : ℕ) (r : RunReader) (n : ℕ) (t : RunReader) → Passes s k (to_come r) → Steps r n t → Passes s (k + n) (to_come t)
+passes_step s k r n t a b =
+    passes_more s (to_come r) (to_come t) k n a (record { numbers = next_of r n; many = length-take-le n (left_of r.run) b.there; there = b.passes })
+
+-- A step within a run: `n` of its numbers are looked at, as many as `m` places or all that are left, and `k` of them are good.
+module _ (r : RunReader) (run : Run) (n m k : ℕ) (is : k ≡ good r.limit (take n (left_of r.run))) (on : left_of run ≡ drop k (left_of r.run)) (least : n ≡ min (length (left_of r.run)) m) where
+  abbrev next : RunReader
+  next = record { width = r.width; limit = r.limit; bytes = r.bytes; run = run }
+
+  pub step_over : Steps r k next
+  step_over = record {
+    there = good_there r.limit n k (left_of r.run) is;
+    passes = good_over r.limit n k (left_of r.run) is (hybrid r.width.bits r.limit r.bytes.now) ∙ ap (λ ys. onto (take k (left_of r.run)) (within r.limit ys (hybrid r.width.bits r.limit r.bytes.now))) (sym on);
+    bytes = refl;
+  }
+
+  pub step_most : k ≤ m
+  step_most = omega (arith, good_few r.limit n k (left_of r.run) is)
+
+  pub step_stops : k < m → Stopped next
+  step_stops h = elim (good_stops r.limit n k (left_of r.run) is m (hybrid r.width.bits r.limit r.bytes.now) least h) [
+    | inl e ↦ inl (on ∙ e)
+    | inr e ↦ inr (ap (λ ys. within r.limit ys (hybrid r.width.bits r.limit r.bytes.now)) on ∙ e)
+  ]
 
 pub got_none : {X : Type 0} (f : ℕ → X) (s : Stream) (o : List X) → Got f s o 0 o s
 got_none f s o = record { passes = passes_none s; most = omega arith; written = refl }
@@ -49,21 +64,30 @@ got_none f s o = record { passes = passes_none s; most = omega arith; written = 
 pub got_to : {X : Type 0} (f : ℕ → X) (s t u : Stream) (o p : List X) (k : ℕ) → Got f s o k p t → t ≡ u → Got f s o k p u
 got_to f s t u o p k a e = record { passes = passes_to s t u k a.passes e; most = a.most; written = a.written }
 
-pub got_more : {X : Type 0} (f : ℕ → X) (s t u : Stream) (o p q : List X) (j k : ℕ) → length p ≡ length o → Got f s o j p t → Reads f t j p k q u → Got f s o (j + k) q u
-got_more f s t u o p q j k l a b =
+-- a step, which wrote into the places behind the first `j`
+pub got_step : {X : Type 0} (f : ℕ → X) (s : Stream) (o p ys : List X) (j : ℕ) (r : RunReader) (n : ℕ) (t : RunReader) → Got f s o j p (to_come r) → Steps r n t
+    → n ≤ length (take (length p - j) (drop j p)) → ys ≡ map f (next_of r n) ++ drop n (take (length p - j) (drop j p)) → Got f s o (j + n) (put_mid j (length p - j) p ys) (to_come t)
+got_step f s o p ys j r n t a b m e =
     let xs : List ℕ = a.passes.numbers in
-    let ys : List ℕ = b.passes.numbers in
-    let n : length (map f xs) ≡ j = length-map xs f ∙ a.passes.many in
-    let tk : take j p ≡ map f xs = ap (take j) a.written ∙ take_at (map f xs) (drop j o) j n in
-    let dk : drop (j + k) p ≡ drop (j + k) o = sym (drop-drop k j p) ∙ (ap (λ z. drop k (drop j z)) a.written ∙ (ap (drop k) (drop_at (map f xs) (drop j o) j n) ∙ drop-drop k j o)) in
+    let zs : List ℕ = next_of r n in
+    let l : length (map f xs) ≡ j = length-map xs f ∙ a.passes.many in
+    let tk : take j p ≡ map f xs = ap (take j) a.written ∙ take_at (map f xs) (drop j o) j l in
+    let dk : drop j p ≡ drop j o = ap (drop j) a.written ∙ drop_at (map f xs) (drop j o) j l in
+    let tr = take_rest p j in
+    let dn = drop_all (length p - j) (drop j p) (omega (arith, length-drop j p)) in
     record {
-      passes = passes_more s t u j k a.passes b.passes;
-      most = omega (arith, b.most);
-      written = b.written
-          ∙ (ap (λ z. z ++ (map f ys ++ drop (j + k) p)) tk
-          ∙ (ap (λ z. map f xs ++ (map f ys ++ z)) dk
-          ∙ (sym (append_assoc (map f xs) (map f ys) (drop (j + k) o)) ∙ ap (λ z. z ++ drop (j + k) o) (sym (map-append f xs ys)))));
+      passes = passes_step s j r n t a.passes b;
+      most = omega (arith, a.most, m, ap length (tr ∙ dk), length-drop j o);
+      written = ap (λ z. take j p ++ (ys ++ z)) dn
+          ∙ (ap (λ z. take j p ++ z) (append-nil ys ∙ (e ∙ ap (λ z. map f zs ++ drop n z) (tr ∙ dk)))
+          ∙ (ap (λ z. z ++ (map f zs ++ drop n (drop j o))) tk
+          ∙ (sym (append_assoc (map f xs) (map f zs) (drop n (drop j o))) ∙ (ap (λ z. z ++ drop n (drop j o)) (sym (map-append f xs zs)) ∙ ap (λ z. map f (xs ++ zs) ++ z) (drop-drop n j o)))));
     }
+
+-- the places stay as many
+pub got_length : {X : Type 0} (f : ℕ → X) (s t : Stream) (o p : List X) (k : ℕ) → Got f s o k p t → length p ≡ length o
+got_length f s t o p k a =
+    ap length a.written ∙ (length-append (map f a.passes.numbers) (drop k o) ∙ omega (arith, a.most, length-map a.passes.numbers f, a.passes.many, length-drop k o))
 
 -- a call that gave all, that came to a clean end, and that came to a fault
 module _ (s t : Stream) (k m : ℕ) (a : Passes s k t) where

@@ -1,37 +1,39 @@
 -- Laws of the numbers of a run.
-use Rattle.std.proofs.Common.{◌≡◌, ℕ, zero, suc, ◌+◌, ◌-◌, ◌*◌, ◌/◌, ◌^◌, ◌<◌, ◌≤◌, true, cond, List, ◌++◌, length, get_or, replicate, sym, refl, ap, ◌∙◌, mul-le-mul_right, mod-lt, arith, pow_pos, le-ltb, leb-true}
-use Rattle.std.proofs.lemmas.List.{length-replicate, replicate-append-replicate, get_or-replicate, get_or-drop}
+use Rattle.std.proofs.Common.{◌≡◌, ℕ, zero, suc, ◌+◌, ◌-◌, ◌*◌, ◌/◌, ◌^◌, ◌<◌, ◌≤◌, cond, List, length, get_or, take, drop, replicate, sym, refl, ap, ◌∙◌, mod-lt, arith, pow_pos, le-ltb}
+use Rattle.std.proofs.lemmas.List.{length-replicate, get_or-replicate, get_or-drop, take_at, drop_at, take-replicate}
 use Rattle.stream.specs.Packing.{le, be, from_below, from_above, low_first, high_first}
 use Rattle.run.specs.declared.order.Order.{Order}
 use Rattle.run.specs.declared.order.Order.TheVariants.{LowFirst, HighFirst}
-use Rattle.run.specs.Packed.{part, good}
+use Rattle.run.specs.Packed.{part, numbers, good}
 use Rattle.run.proofs.PackedParts.{part_length, part_split}
 use Rattle.run.proofs.Goods.{good_all}
-use Rattle.run.specs.declared.kind.Run.{Run}
-use Rattle.run.specs.declared.kind.Run.TheVariants.{Repeated, Packed}
-use Rattle.run.specs.Runs.{of_run, whole_in}
+use Rattle.run.specs.declared.packed.Part.{Part}
 
-pub run_length : (r : Run) (w at n : ℕ) (bs : List ℕ) → length (of_run r w at n bs) ≡ n
-run_length (Repeated v) w at n bs = length-replicate n v
-run_length (Packed o) w at n bs = part_length o w at n bs
+-- the first numbers of a part, and those behind them
+pub part_front : (o : Order) (w a n c : ℕ) (bs : List ℕ) → n ≤ c → part o w a n bs ≡ take n (part o w a c bs)
+part_front o w a n c bs h =
+    let s : n + (c - n) ≡ c = omega arith in
+    sym (ap (λ j. take n (part o w a j bs)) (sym s)
+    ∙ (ap (take n) (part_split o w a n (c - n) bs) ∙ take_at (part o w a n bs) (part o w (a + n) (c - n) bs) n (part_length o w a n bs)))
 
--- the next `m` numbers of a run, then the next `n`
-pub run_split : (r : Run) (w at m n : ℕ) (bs : List ℕ) → of_run r w at (m + n) bs ≡ of_run r w at m bs ++ of_run r w (at + m) n bs
-run_split (Repeated v) w at m n bs = sym (replicate-append-replicate m n v)
-run_split (Packed o) w at m n bs = part_split o w at m n bs
+pub part_behind : (o : Order) (w a n c : ℕ) (bs : List ℕ) → n ≤ c → part o w (a + n) (c - n) bs ≡ drop n (part o w a c bs)
+part_behind o w a n c bs h =
+    let s : n + (c - n) ≡ c = omega arith in
+    sym (ap (λ j. drop n (part o w a j bs)) (sym s)
+    ∙ (ap (drop n) (part_split o w a n (c - n) bs) ∙ drop_at (part o w a n bs) (part o w (a + n) (c - n) bs) n (part_length o w a n bs)))
 
--- the bytes of a packed run hold the next numbers
-pub part_whole : (o : Order) (w at n left : ℕ) (bs : List ℕ) → n ≤ left → whole_in (Packed o) w (at + left) bs ≡ true → (at + n) * w ≤ 8 * length bs
-part_whole o w at n left bs h e =
-    let l = leb-true ((at + left) * w) (8 * length bs) e in
-    let k : at + n ≤ at + left = omega arith in
-    let m = mul-le-mul_right w k in
-    omega arith
+-- as many numbers as the part counts
+pub numbers_length : (p : Part) → length (numbers p) ≡ p.count
+numbers_length p = part_length p.order p.width.bits p.skip p.count p.bytes.now
 
 -- copies of a number are good, or none of them is
 pub good_copies : (limit v n : ℕ) → v < limit → n ≡ good limit (replicate n v)
 good_copies limit v n h =
     sym (good_all limit (replicate n v) (λ i l. omega (arith, get_or-replicate n i v 0 (omega (arith, length-replicate n v)))) ∙ length-replicate n v)
+
+-- the same of the first of more copies
+pub copies_good : (limit v n c : ℕ) → v < limit → n ≤ c → n ≡ good limit (take n (replicate c v))
+copies_good limit v n c h l = good_copies limit v n h ∙ ap (good limit) (sym (take-replicate n c v l))
 
 pub bad_copies : (limit v n : ℕ) → limit ≤ v → 0 ≡ good limit (replicate n v)
 bad_copies limit v zero h = refl
@@ -56,10 +58,3 @@ pub good_width : (o : Order) (w a n limit : ℕ) (bs : List ℕ) → 2 ^ w ≤ l
 good_width o w a n limit bs h =
     let l = part_length o w a n bs in
     sym (good_all limit (part o w a n bs) (λ i k. omega (arith, part_top o w a n bs i (omega arith))) ∙ l)
-
-pub part_room : (r : Run) (o : Order) (w b at n left : ℕ) (bs : List ℕ) → r ≡ Packed o → b ≡ w → n ≤ left → whole_in r w (at + left) bs ≡ true → (at + n) * b ≤ 8 * length bs
-part_room r o w b at n left bs e q h t =
-    let u : whole_in (Packed o) w (at + left) bs ≡ true = ap (λ x. whole_in x w (at + left) bs) (sym e) ∙ t in
-    let m = part_whole o w at n left bs h u in
-    let z : (at + n) * b ≡ (at + n) * w = ap (λ k. (at + n) * k) q in
-    omega arith

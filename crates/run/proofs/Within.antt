@@ -1,14 +1,11 @@
 -- Laws of numbers held against a limit.
-use Rattle.std.proofs.Common.{◌≡◌, ℕ, suc, ◌+◌, ◌-◌, ◌<◌, ◌≤◌, Bool, true, false, cond, ltb, List, [], ◌∷◌, ◌++◌, length, take, sym, refl, ap, ◌∙◌, inl, inr, arith}
-use Rattle.std.proofs.lemmas.List.{take_at}
-use Rattle.std.proofs.lemmas.Bool.{lt-ltb, le-ltb, cond-true, cond-false, cases_lt}
+use Rattle.std.proofs.Common.{◌≡◌, ℕ, zero, suc, ◌<◌, ◌≤◌, min, ◌⊎◌, Bool, true, false, cond, ltb, List, [], ◌∷◌, ◌++◌, length, take, drop, sym, refl, ap, ◌∙◌, inl, inr, arith}
+use Rattle.std.proofs.lemmas.List.{drop_all, length-take, take-append-drop}
+use Rattle.std.proofs.lemmas.Bool.{cases_lt}
 use Rattle.stream.specs.Streams.{Stream, ended, fault, within}
 use Rattle.run.specs.Packed.{good}
-use Rattle.run.proofs.Goods.{good_cut, good_most}
-use Rattle.run.specs.declared.kind.Run.{Run}
-use Rattle.run.specs.Runs.{of_run}
-use Rattle.run.specs.Reading.{onto, unless}
-use Rattle.run.proofs.Parts.{run_length, run_split}
+use Rattle.run.proofs.Goods.{good_append, good_cut, good_most}
+use Rattle.run.specs.Reading.{onto}
 
 -- numbers that are all good
 pub within_good : (limit : ℕ) (xs : List ℕ) (t : Stream) → good limit xs ≡ length xs → within limit xs t ≡ onto xs t
@@ -35,31 +32,52 @@ within_append limit [] ys t = refl
 within_append limit (x ∷ xs) ys t =
     ap (λ s. cond (ltb x limit) (record { numbers = x ∷ s.numbers; end = s.end }) (ended fault)) (within_append limit xs ys t)
 
--- `k` good numbers of the next `n` of a run
-pub pass_run : (limit : ℕ) (r : Run) (w at left k n : ℕ) (bs : List ℕ) (t : Stream) → n ≤ left → k ≡ good limit (of_run r w at n bs)
-    → within limit (of_run r w at left bs) t ≡ onto (of_run r w at k bs) (unless (ltb k n) (within limit (of_run r w (at + k) (left - k) bs) t))
-pass_run limit r w at left k n bs t h e =
-    let ln = run_length r w at n bs in
-    let lk = run_length r w at k bs in
-    let ll = run_length r w at left bs in
-    let gm = good_most limit (of_run r w at n bs) in
-    let kl : k ≤ left = omega arith in
-    let sk : k + (left - k) ≡ left = omega arith in
-    let sn : n + (left - n) ≡ left = omega arith in
-    let pk : of_run r w at left bs ≡ of_run r w at k bs ++ of_run r w (at + k) (left - k) bs = ap (λ j. of_run r w at j bs) (sym sk) ∙ run_split r w at k (left - k) bs in
-    elim (cases_lt k n) [
-      | inl c ↦ (let pn : of_run r w at left bs ≡ of_run r w at n bs ++ of_run r w (at + n) (left - n) bs = ap (λ j. of_run r w at j bs) (sym sn) ∙ run_split r w at n (left - n) bs in
-          let cn : good limit (of_run r w at n bs) < length (of_run r w at n bs) = omega arith in
-          let g : good limit (of_run r w at left bs) ≡ k = ap (good limit) pn ∙ (good_cut limit (of_run r w at n bs) (of_run r w (at + n) (left - n) bs) cn ∙ sym e) in
-          let cl : good limit (of_run r w at left bs) < length (of_run r w at left bs) = omega arith in
-          within_bad limit (of_run r w at left bs) t cl
-          ∙ (ap (λ j. onto (take j (of_run r w at left bs)) (ended fault)) g
-          ∙ (ap (λ xs. onto xs (ended fault)) (ap (take k) pk ∙ take_at (of_run r w at k bs) (of_run r w (at + k) (left - k) bs) k lk)
-          ∙ ap (onto (of_run r w at k bs)) (sym (cond-true (ltb k n) _ _ (lt-ltb k n c))))))
-      | inr c ↦ (let q : n ≡ k = omega arith in
-          let g : good limit (of_run r w at k bs) ≡ length (of_run r w at k bs) = ap (λ j. good limit (of_run r w at j bs)) (sym q) ∙ (sym e ∙ sym lk) in
-          ap (λ xs. within limit xs t) pk
-          ∙ (within_append limit (of_run r w at k bs) (of_run r w (at + k) (left - k) bs) t
-          ∙ (within_good limit (of_run r w at k bs) _ g
-          ∙ ap (onto (of_run r w at k bs)) (sym (cond-false (ltb k n) _ _ (le-ltb k n c))))))
-    ]
+-- over `k` numbers that are good
+pub within_over : (limit k : ℕ) (xs : List ℕ) (t : Stream) → k ≤ good limit xs → within limit xs t ≡ onto (take k xs) (within limit (drop k xs) t)
+within_over limit zero xs t h = refl
+within_over limit (suc k) [] t h = absurd (omega arith)
+within_over limit (suc k) (x ∷ xs) t h = go (ltb x limit) (within_over limit k xs t) h
+  where
+    go : (b : Bool) → (k ≤ good limit xs → within limit xs t ≡ onto (take k xs) (within limit (drop k xs) t)) → suc k ≤ cond b (suc (good limit xs)) 0
+        → cond b (record { numbers = x ∷ (within limit xs t).numbers; end = (within limit xs t).end }) (ended fault) ≡ onto (x ∷ take k xs) (within limit (drop k xs) t)
+    go true i e = let j = i (omega arith) in ap (λ s. onto (x ∷ []) s) j
+    go false i e = absurd (omega arith)
+
+-- at a number that is not good
+pub within_stops : (limit : ℕ) (xs : List ℕ) (t : Stream) → good limit xs < length xs → within limit (drop (good limit xs) xs) t ≡ ended fault
+within_stops limit [] t h = absurd (omega arith)
+within_stops limit (x ∷ xs) t h = go (ltb x limit) refl (within_stops limit xs t) h
+  where
+    go : (b : Bool) → ltb x limit ≡ b → (good limit xs < length xs → within limit (drop (good limit xs) xs) t ≡ ended fault) → cond b (suc (good limit xs)) 0 < suc (length xs)
+        → within limit (drop (cond b (suc (good limit xs)) 0) (x ∷ xs)) t ≡ ended fault
+    go true q i e = i (omega arith)
+    go false q i e = ap (λ b. cond b (record { numbers = x ∷ (within limit xs t).numbers; end = (within limit xs t).end }) (ended fault)) q
+
+-- The next numbers, of which `n` are looked at: `k` of them are good.
+module _ (limit n k : ℕ) (xs : List ℕ) (is : k ≡ good limit (take n xs)) where
+  both : good limit (take n xs ++ drop n xs) ≡ good limit xs
+  both = ap (good limit) (take-append-drop n xs)
+
+  pub good_there : k ≤ length xs
+  good_there = omega (arith, good_most limit (take n xs), length-take n xs)
+
+  pub good_few : k ≤ n
+  good_few = omega (arith, good_most limit (take n xs), length-take n xs)
+
+  good_in : k ≤ good limit xs
+  good_in = elim (cases_lt k (length (take n xs))) [
+    | inl c ↦ (let l : good limit (take n xs) < length (take n xs) = omega (arith, is) in omega (arith, is, good_cut limit (take n xs) (drop n xs) l, both))
+    | inr c ↦ (let l : good limit (take n xs) ≡ length (take n xs) = omega (arith, is, good_most limit (take n xs)) in omega (arith, is, good_append limit (take n xs) (drop n xs) l, both))
+  ]
+
+  pub good_over : (t : Stream) → within limit xs t ≡ onto (take k xs) (within limit (drop k xs) t)
+  good_over t = within_over limit k xs t good_in
+
+  -- fewer than there are places: the run is read, or the next is not good
+  pub good_stops : (m : ℕ) (t : Stream) → n ≡ min (length xs) m → k < m → (drop k xs ≡ []) ⊎ (within limit (drop k xs) t ≡ ended fault)
+  good_stops m t e h = elim (cases_lt k (length (take n xs))) [
+    | inl c ↦ (let g : good limit xs ≡ k = sym both ∙ (good_cut limit (take n xs) (drop n xs) (omega arith) ∙ sym is) in
+        let l : good limit xs < length xs = omega (arith, length-take n xs) in
+        inr (ap (λ j. within limit (drop j xs) t) (sym g) ∙ within_stops limit xs t l))
+    | inr c ↦ inl (drop_all k xs (omega (arith, length-take n xs)))
+  ]

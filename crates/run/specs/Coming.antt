@@ -1,26 +1,31 @@
 -- What a reader is still to give.
-use Rattle.std.specs.Prelude.{◌≡◌, ℕ, ◌+◌, ◌-◌, ◌<◌, List, length}
+use Rattle.std.specs.Prelude.{◌≡◌, ◌<◌, ◌≤◌, ◌⊎◌, ℕ, List, [], take, Option, None, Some, Result, Ok, Err, length}
 use Rattle.stream.specs.Streams.{Stream, within, hybrid, ended, clean, fault}
-use Rattle.run.specs.Runs.{of_run}
-use Rattle.run.specs.declared.loaded.Loaded.{Loaded}
-use Rattle.run.specs.declared.loaded.Loaded.TheVariants.{Next, Over, Broken}
+use Rattle.run.specs.Runs.{left_of}
+use Rattle.run.specs.Reading.{onto}
+use Rattle.run.specs.declared.kind.StreamFault.{StreamFault}
 use Rattle.run.specs.declared.reader.RunReader.{RunReader}
-
--- the next `n` numbers of the run that is being read
-abbrev pub next_of : RunReader → ℕ → List ℕ
-next_of r n = of_run r.run r.width.bits r.at n r.packed.now
 
 -- the numbers left of the run that is being read, held against the limit, then what the bytes behind it mean
 abbrev pub to_come : RunReader → Stream
-to_come r = within r.limit (next_of r r.left) (hybrid r.width.bits r.limit r.bytes.now)
+to_come r = within r.limit (left_of r.run) (hybrid r.width.bits r.limit r.bytes.now)
 
--- the same behind the next `n` numbers of the run
-abbrev pub behind : RunReader → ℕ → Stream
-behind r n =
-    within r.limit (of_run r.run r.width.bits (r.at + n) (r.left - n) r.packed.now) (hybrid r.width.bits r.limit r.bytes.now)
+-- the next `n` numbers of the run that is being read
+abbrev pub next_of : RunReader → ℕ → List ℕ
+next_of r n = take n (left_of r.run)
 
--- what goes on from the reader `s`, whose run is read; `t` is the reader then
-abbrev pub Loads : RunReader → Loaded → RunReader → Type 0
-Loads s Next t = (to_come s ≡ to_come t) × (length t.bytes.now < length s.bytes.now)
-Loads s Over t = (to_come s ≡ ended clean) × (to_come t ≡ ended clean)
-Loads s Broken t = to_come s ≡ ended fault
+-- from the reader `s` to the reader `t`, over the next `k` numbers of the run, which are good
+pub record Steps (s : RunReader) (k : ℕ) (t : RunReader) : Type 0 where
+  pub there : k ≤ length (left_of s.run)
+  pub passes : to_come s ≡ onto (next_of s k) (to_come t)
+  pub bytes : t.bytes.now ≡ s.bytes.now
+
+-- the run is read, or a number that is not good comes next
+abbrev pub Stopped : RunReader → Type 0
+Stopped r = (left_of r.run ≡ []) ⊎ (to_come r ≡ ended fault)
+
+-- what goes on from the reader `s`, which has stopped: a reader at the next run, or the end
+abbrev pub Continues : RunReader → Result (Option RunReader) StreamFault → Type 0
+Continues s (Ok (Some t)) = (to_come s ≡ to_come t) × (length t.bytes.now < length s.bytes.now)
+Continues s (Ok None) = to_come s ≡ ended clean
+Continues s (Err f) = to_come s ≡ ended fault

@@ -1,6 +1,7 @@
 -- Parts of packed numbers, and numbers held against a limit.
 use Rattle.std.specs.Prelude.{ℕ, zero, suc, ◌+◌, ◌*◌, ◌^◌, cond, List, [], ◌∷◌, drop, nat_lt}
 use Rattle.stream.specs.Packing.{low_first, high_first}
+use Rattle.run.specs.declared.packed.Part.{Part}
 use Rattle.run.specs.declared.order.Order.{Order}
 use Rattle.run.specs.declared.order.Order.TheVariants.{LowFirst, HighFirst}
 
@@ -16,6 +17,10 @@ highs w a n bs = drop a (high_first w (a + n) bs)
 abbrev pub part : Order → ℕ → ℕ → ℕ → List ℕ → List ℕ
 part LowFirst w a n bs = lows w a n bs
 part HighFirst w a n bs = highs w a n bs
+
+-- the numbers of a part
+abbrev pub numbers : Part → List ℕ
+numbers p = part p.order p.width.bits p.skip p.count p.bytes.now
 
 -- how many numbers stand in front of the first that is not below the limit
 abbrev pub good : ℕ → List ℕ → ℕ

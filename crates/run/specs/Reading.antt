@@ -1,6 +1,6 @@
 -- Reading and skipping, as functions of the stream to come.
 use Rattle.std.specs.Prelude.{◌≡◌, ℕ, ◌+◌, ◌≤◌, min, Bool, true, false, cond, ◌&&◌, List, ◌++◌, map, length, take, drop, Ok, Err, Result, nat_lt}
-use Rattle.stream.specs.Streams.{Stream, End, clean, fault, ended}
+use Rattle.stream.specs.Streams.{Stream, End, clean, fault}
 use Rattle.run.specs.declared.kind.StreamFault.{StreamFault}
 
 abbrev pub is_fault : End → Bool
@@ -23,6 +23,10 @@ after m s = record { numbers = drop m s.numbers; end = s.end }
 abbrev pub replied : ℕ → Stream → Result ℕ StreamFault
 replied m s = cond (fails m s) (Err (record {})) (Ok (given m s))
 
+-- what a call for some of `m` numbers replies: how many come before the end or a fault, or the fault where it comes first
+abbrev pub some_of : ℕ → Stream → Result ℕ StreamFault
+some_of m s = cond (fails (min 1 m) s) (Err (record {})) (Ok (given m s))
+
 -- what is to come after the call; after a fault that is what it was
 abbrev pub rest : ℕ → Stream → Stream
 rest m s = cond (fails m s) s (after m s)
@@ -40,16 +44,6 @@ pub record Passes (s : Stream) (k : ℕ) (t : Stream) : Type 0 where
   pub numbers : List ℕ
   pub many : length numbers ≡ k
   pub there : s ≡ onto numbers t
-
--- the same, and the places behind the first `at` of `o` have them
-pub record Reads {X : Type 0} (f : ℕ → X) (s : Stream) (at : ℕ) (o : List X) (k : ℕ) (p : List X) (t : Stream) : Type 0 where
-  pub passes : Passes s k t
-  pub most : at + k ≤ length o
-  pub written : p ≡ take at o ++ (map f passes.numbers ++ drop (at + k) o)
-
--- what is to come behind a step within a run, if it met a fault or not
-abbrev pub unless : Bool → Stream → Stream
-unless bad t = cond bad (ended fault) t
 
 -- A call for `n` numbers and then one for `m`, and one call for `n + m`.
 pub record Added (s : Stream) (n m : ℕ) : Type 0 where

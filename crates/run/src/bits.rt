@@ -1,11 +1,12 @@
 //! A reader at the start of BIT_PACKED.
 
 ghost use Rattle.std.specs.Prelude.{◌≡◌};
-ghost use Rattle.stream.specs.Streams.{bit_packed, ended, fault};
+ghost use Rattle.stream.specs.Streams.{bit_packed};
 ghost use Rattle.run.specs.Coming.{to_come};
 
 use crate::kind::Run;
 use crate::order::Order;
+use crate::packed::Part;
 use crate::reader::RunReader;
 use stream::width::Width;
 
@@ -16,39 +17,28 @@ impl<'a> RunReader<'a> {
     {
         let bits = width.bits() as usize;
         if bits == 0 {
-            return RunReader::ended(bytes, width);
+            return RunReader::ended(width);
         }
         // So many bytes hold more numbers than a run may have, at any width; below, eight times the length fits.
         if bytes.len() >= 1 << 34 {
-            return RunReader::broken(bytes, width);
+            return RunReader::broken(width);
         }
-        let left = 8 * bytes.len() / bits;
-        if left > 2147483647 {
-            return RunReader::broken(bytes, width);
+        let count = 8 * bytes.len() / bits;
+        if count > 2147483647 {
+            return RunReader::broken(width);
         }
+        let part = Part {
+            order: Order::HighFirst,
+            bytes,
+            width,
+            skip: 0,
+            count,
+        };
         RunReader {
             width,
             limit,
-            bytes: &bytes[bytes.len()..],
-            run: Run::Packed(Order::HighFirst),
-            packed: bytes,
-            at: 0,
-            left,
-        }
-    }
-
-    /// A reader at a fault: a number where none is good.
-    pub(crate) fn broken(bytes: &'a [u8], width: Width) -> RunReader<'a>
-        ensures { to_come result ≡ ended fault }
-    {
-        RunReader {
-            width,
-            limit: 0,
-            bytes,
-            run: Run::Repeated(0),
-            packed: bytes,
-            at: 0,
-            left: 1,
+            bytes: &[],
+            run: Run::Packed(part),
         }
     }
 }

@@ -1,7 +1,7 @@
 //! Readers at the start of a stream.
 
 ghost use Rattle.std.specs.Prelude.{◌≡◌};
-ghost use Rattle.stream.specs.Streams.{hybrid, ended, clean};
+ghost use Rattle.stream.specs.Streams.{hybrid, ended, clean, fault};
 ghost use Rattle.run.specs.Coming.{to_come};
 
 use crate::kind::Run;
@@ -17,10 +17,7 @@ impl<'a> RunReader<'a> {
             width,
             limit,
             bytes,
-            run: Run::Repeated(0),
-            packed: bytes,
-            at: 0,
-            left: 0,
+            run: Run::Repeated { value: 0, count: 0 },
         }
     }
 
@@ -29,23 +26,32 @@ impl<'a> RunReader<'a> {
         ensures { to_come result ≡ ended clean }
     {
         match Width::new(0) {
-            Some(width) => RunReader::ended(&[], width),
+            Some(width) => RunReader::ended(width),
             None => unreachable(),
         }
     }
 
     /// A reader at a clean end.
-    pub(crate) fn ended(bytes: &'a [u8], width: Width) -> RunReader<'a>
+    pub(crate) fn ended(width: Width) -> RunReader<'a>
         ensures { to_come result ≡ ended clean }
     {
         RunReader {
             width,
             limit: 0,
-            bytes: &bytes[bytes.len()..],
-            run: Run::Repeated(0),
-            packed: bytes,
-            at: 0,
-            left: 0,
+            bytes: &[],
+            run: Run::Repeated { value: 0, count: 0 },
+        }
+    }
+
+    /// A reader at a fault: a number where none is good.
+    pub(crate) fn broken(width: Width) -> RunReader<'a>
+        ensures { to_come result ≡ ended fault }
+    {
+        RunReader {
+            width,
+            limit: 0,
+            bytes: &[],
+            run: Run::Repeated { value: 0, count: 1 },
         }
     }
 }

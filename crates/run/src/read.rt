@@ -1,11 +1,10 @@
 //! Reading and skipping.
 
-ghost use Rattle.std.specs.Prelude.{◌≡◌, false, length};
+ghost use Rattle.std.specs.Prelude.{◌≡◌, length};
 ghost use Rattle.run.specs.Coming.{to_come};
-ghost use Rattle.run.specs.Reading.{fails, given, after, replied, rest, filled};
+ghost use Rattle.run.specs.Reading.{after, replied, some_of, rest, filled};
 
 use crate::kind::StreamFault;
-use crate::loaded::Loaded;
 use crate::reader::RunReader;
 use element::number::Number;
 
@@ -18,10 +17,9 @@ impl<'a> RunReader<'a> {
         ensures filled { out.new ≡ filled T.Number.from (to_come self.old) out.old }
     {
         let mut run = *self;
-        let (k, bad) = run.fill(out);
-        if bad {
-            return Err(StreamFault);
-        }
+        let k = run.read_some(out)?;
+        // Fewer come only before an end or a fault; a step more tells which.
+        let _ = run.skip_some(out.len() - k)?;
         *self = run;
         Ok(k)
     }
@@ -33,59 +31,48 @@ impl<'a> RunReader<'a> {
         ensures rest { to_come self.new ≡ rest m (to_come self.old) }
     {
         let mut run = *self;
-        let (k, bad) = run.leap(m);
-        if bad {
-            return Err(StreamFault);
-        }
+        let k = run.skip_some(m)?;
+        let _ = run.skip_some(m - k)?;
         *self = run;
         Ok(k)
     }
 
-    /// Reads on from run to run; tells how many numbers it wrote, and whether a fault came before all places had one.
-    fn fill<T: Number>(&mut self, out: &mut [T]) -> (usize, bool)
-        ensures bad { result.1 ≡ fails (length out.old) (to_come self.old) }
-        ensures many { result.1 ≡ false → result.0 ≡ given (length out.old) (to_come self.old) }
-        ensures on { result.1 ≡ false → to_come self.new ≡ after (length out.old) (to_come self.old) }
+    /// Reads as many numbers as `out` has places, fewer only before an end or a fault, and tells how many; the fault itself where not one number comes
+    /// before it.
+    pub fn read_some<T: Number>(&mut self, out: &mut [T]) -> Result<usize, StreamFault>
+        ensures reply { result ≡ some_of (length out.old) (to_come self.old) }
+        ensures rest { to_come self.new ≡ after (length out.old) (to_come self.old) }
         ensures filled { out.new ≡ filled T.Number.from (to_come self.old) out.old }
     {
         let mut k = 0;
         'runs: loop {
-            let (n, bad) = self.take(out, k);
-            k += n;
-            if bad {
-                return (k, true);
-            }
+            k += self.take(&mut out[k..]);
             if k == out.len() {
-                return (k, false);
+                return Ok(k);
             }
-            match self.load() {
-                Loaded::Next => {}
-                Loaded::Over => return (k, false),
-                Loaded::Broken => return (k, true),
+            match self.next_run() {
+                Ok(Some(next)) => *self = next,
+                Err(fault) if k == 0 => return Err(fault),
+                _ => return Ok(k),
             }
         }
     }
 
-    /// Passes on from run to run; tells how many numbers it passed over, and whether a fault came before there were `m`.
-    fn leap(&mut self, m: usize) -> (usize, bool)
-        ensures bad { result.1 ≡ fails m (to_come self.old) }
-        ensures many { result.1 ≡ false → result.0 ≡ given m (to_come self.old) }
-        ensures on { result.1 ≡ false → to_come self.new ≡ after m (to_come self.old) }
+    /// Passes over `m` numbers, fewer only before an end or a fault, and tells how many; the fault itself where not one number comes before it.
+    fn skip_some(&mut self, m: usize) -> Result<usize, StreamFault>
+        ensures reply { result ≡ some_of m (to_come self.old) }
+        ensures rest { to_come self.new ≡ after m (to_come self.old) }
     {
-        let mut k = 0;
+        let mut passed = 0;
         'runs: loop {
-            let (n, bad) = self.pass(m - k);
-            k += n;
-            if bad {
-                return (k, true);
+            passed += self.pass(m - passed);
+            if passed == m {
+                return Ok(passed);
             }
-            if k == m {
-                return (k, false);
-            }
-            match self.load() {
-                Loaded::Next => {}
-                Loaded::Over => return (k, false),
-                Loaded::Broken => return (k, true),
+            match self.next_run() {
+                Ok(Some(next)) => *self = next,
+                Err(fault) if passed == 0 => return Err(fault),
+                _ => return Ok(passed),
             }
         }
     }

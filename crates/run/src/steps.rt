@@ -1,14 +1,11 @@
-//! Steps within a run, and on to the next.
+//! Steps within a run.
 
-ghost use Rattle.std.specs.Prelude.{◌≡◌, ◌+◌, ◌-◌, ◌<◌, ◌≤◌, true, false, map, length, nat_lt};
+ghost use Rattle.std.specs.Prelude.{◌≡◌, ◌≤◌, ◌<◌, ◌++◌, map, length, take, drop, nat_lt};
 ghost use Rattle.run.specs.Packed.{good};
-ghost use Rattle.run.specs.declared.kind.Run.TheVariants.{Packed};
-ghost use Rattle.run.specs.Coming.{to_come, behind, next_of};
-ghost use Rattle.run.specs.Reading.{onto, Reads, unless};
+ghost use Rattle.run.specs.Coming.{next_of, Steps, Stopped};
+ghost use Rattle.run.specs.Runs.{left_of};
 
 use crate::kind::Run;
-use crate::order::Order;
-use crate::part::{good_part, unpack_good, unpack_part};
 use crate::reader::RunReader;
 use crate::repeated::repeat;
 use element::number::Number;
@@ -17,128 +14,91 @@ use element::number::Number;
 fn below(x: u32, limit: u64) -> bool
     ensures { result ≡ nat_lt x limit }
 {
-    (x as u64) < limit
+    u64::from(x) < limit
+}
+
+impl<'a> Run<'a> {
+    /// How many numbers are left.
+    #[tactic(auto, using(crate::proofs::Parts::numbers_length))]
+    pub(crate) fn len(self) -> usize
+        ensures { result ≡ length (left_of self.entry) }
+    {
+        match self {
+            Run::Repeated { count, .. } => count,
+            Run::Packed(part) => part.count,
+        }
+    }
+
+    /// The run behind its next `n` numbers.
+    #[tactic(auto, using(crate::proofs::Parts::numbers_length))]
+    fn behind(self, n: usize) -> Run<'a>
+        requires { n ≤ length (left_of self) }
+        ensures { left_of result ≡ drop n (left_of self.entry) }
+    {
+        match self {
+            Run::Repeated { value, count } => Run::Repeated {
+                value,
+                count: count - n,
+            },
+            Run::Packed(part) => Run::Packed(part.behind(n)),
+        }
+    }
+
+    /// How many of the next `n` numbers stand in front of the first that is not below the limit.
+    #[tactic(auto, using(crate::proofs::Parts::numbers_length))]
+    fn good(self, n: usize, limit: u64) -> usize
+        requires { n ≤ length (left_of self) }
+        ensures { result ≡ good limit (take n (left_of self.entry)) }
+    {
+        match self {
+            Run::Repeated { value, .. } => { if below(value, limit) { n } else { 0 } }
+            Run::Packed(part) => part.front(n).good(limit),
+        }
+    }
+
+    /// Writes those of the next numbers, as many as there are places, that stand in front of the first that is not below the limit; tells how many.
+    #[tactic(auto, using(crate::proofs::Parts::numbers_length))]
+    fn unpack_good<T: Number>(self, limit: u64, out: &mut [T]) -> usize
+        requires { length out.old ≤ length (left_of self) }
+        ensures is { result ≡ good limit (take (length out.old) (left_of self.entry)) }
+        ensures written { out.new ≡ map T.Number.from (take result (left_of self.entry)) ++ drop result out.old }
+    {
+        match self {
+            Run::Repeated { value, .. } => {
+                if !below(value, limit) {
+                    return 0;
+                }
+                repeat(out, value);
+                out.len()
+            }
+            Run::Packed(part) => part.front(out.len()).unpack_good(limit, out),
+        }
+    }
 }
 
 impl<'a> RunReader<'a> {
-    /// How many of the next `n` numbers of the run stand in front of the first that is not below the limit.
-    fn good(self, n: usize) -> usize
-        requires { n ≤ self.left }
-        ensures { result ≡ good self.entry.limit (next_of self.entry n) }
+    /// Writes the next numbers of the run, as many as there are places, but none from the first on that is not below the limit; tells how many.
+    pub(crate) fn take<T: Number>(&mut self, out: &mut [T]) -> usize
+        ensures steps { Steps self.old result self.new }
+        ensures most { result ≤ length out.old }
+        ensures stops { result < length out.old → Stopped self.new }
+        ensures written { out.new ≡ map T.Number.from (next_of self.old result) ++ drop result out.old }
     {
-        match self.run {
-            Run::Repeated(v) => { if below(v, self.limit) { n } else { 0 } }
-            Run::Packed(order) => {
-                if self.limit >= 1 << self.width.bits() {
-                    return n;
-                }
-                good_part(
-                    order,
-                    self.packed,
-                    self.at,
-                    self.width.bits(),
-                    n,
-                    self.limit,
-                )
-            }
-        }
+        let n = self.run.len().min(out.len());
+        let k = self.run.unpack_good(self.limit, &mut out[..n]);
+        self.run = self.run.behind(k);
+        k
     }
 
-    /// Writes the next numbers of the run, as many as there are places.
-    fn copy<T: Number>(self, out: &mut [T])
-        requires { length out.old ≤ self.left }
-        ensures { out.new ≡ map T.Number.from (next_of self.entry (length out.old)) }
+    /// Passes over the next numbers of the run, `m` at most, but none from the first on that is not below the limit; tells how many.
+    pub(crate) fn pass(&mut self, m: usize) -> usize
+        ensures steps { Steps self.old result self.new }
+        ensures most { result ≤ m }
+        ensures stops { result < m → Stopped self.new }
     {
-        match self.run {
-            Run::Repeated(v) => repeat(out, v),
-            Run::Packed(order) => unpack_part(order, self.packed, self.at, self.width.bits(), out),
-        }
-    }
-
-    /// The reader behind the next `n` numbers of the run.
-    fn moved(self, n: usize) -> RunReader<'a>
-        requires { n ≤ self.left }
-        ensures is { to_come result ≡ behind self.entry n }
-        ensures left { result.left ≡ self.entry.left - n }
-        ensures bytes { result.bytes.now ≡ self.entry.bytes.now }
-    {
-        RunReader {
-            width: self.width,
-            limit: self.limit,
-            bytes: self.bytes,
-            run: self.run,
-            packed: self.packed,
-            at: self.at + n,
-            left: self.left - n,
-        }
-    }
-
-    /// Passes over the next numbers of the run, `m` at most; tells how many, and whether the next is not below the limit.
-    pub(crate) fn pass(&mut self, m: usize) -> (usize, bool)
-        ensures most { result.0 ≤ m }
-        ensures there { result.0 ≤ self.old.left }
-        ensures passes { to_come self.old ≡ onto (next_of self.old result.0) (unless result.1 (to_come self.new)) }
-        ensures bad { result.1 ≡ true → result.0 < m }
-        ensures done { result.1 ≡ false → result.0 < m → self.new.left ≡ 0 }
-        ensures bytes { self.new.bytes.now ≡ self.old.bytes.now }
-    {
-        let n = self.left.min(m);
-        let k = self.good(n);
-        *self = self.moved(k);
-        (k, k < n)
-    }
-
-    /// Writes the next numbers of the run behind the first `at` places of `out`; tells how many, and whether the next is not below the limit.
-    pub(crate) fn take<T: Number>(&mut self, out: &mut [T], at: usize) -> (usize, bool)
-        requires { at ≤ length out.old }
-        ensures reads { Reads T.Number.from (to_come self.old) at out.old result.0 out.new (unless result.1 (to_come self.new)) }
-        ensures bad { result.1 ≡ true → at + result.0 < length out.old }
-        ensures done { result.1 ≡ false → at + result.0 < length out.old → self.new.left ≡ 0 }
-        ensures bytes { self.new.bytes.now ≡ self.old.bytes.now }
-    {
-        match self.run {
-            Run::Packed(order) if self.limit < 1 << self.width.bits() => self.take_held(
-                order, out, at,
-            ),
-            _ => self.take_known(out, at),
-        }
-    }
-
-    /// `take` where the numbers are looked at first and then written.
-    fn take_known<T: Number>(&mut self, out: &mut [T], at: usize) -> (usize, bool)
-        requires { at ≤ length out.old }
-        ensures reads { Reads T.Number.from (to_come self.old) at out.old result.0 out.new (unless result.1 (to_come self.new)) }
-        ensures bad { result.1 ≡ true → at + result.0 < length out.old }
-        ensures done { result.1 ≡ false → at + result.0 < length out.old → self.new.left ≡ 0 }
-        ensures bytes { self.new.bytes.now ≡ self.old.bytes.now }
-    {
-        let run = *self;
-        let (k, bad) = self.pass(out.len() - at);
-        run.copy(&mut out[at..at + k]);
-        (k, bad)
-    }
-
-    /// `take` of packed numbers, each held against the limit as it is written.
-    fn take_held<T: Number>(&mut self, order: Order, out: &mut [T], at: usize) -> (usize, bool)
-        requires within { at ≤ length out.old }
-        requires packed { self.old.run ≡ Packed order }
-        ensures reads { Reads T.Number.from (to_come self.old) at out.old result.0 out.new (unless result.1 (to_come self.new)) }
-        ensures bad { result.1 ≡ true → at + result.0 < length out.old }
-        ensures done { result.1 ≡ false → at + result.0 < length out.old → self.new.left ≡ 0 }
-        ensures bytes { self.new.bytes.now ≡ self.old.bytes.now }
-    {
-        let n = self.left.min(out.len() - at);
-        let k = unpack_good(
-            order,
-            self.packed,
-            self.at,
-            self.width.bits(),
-            n,
-            self.limit,
-            out,
-            at,
-        );
-        *self = self.moved(k);
-        (k, k < n)
+        let n = self.run.len().min(m);
+        let k = self.run.good(n, self.limit);
+        self.run = self.run.behind(k);
+        k
     }
 }

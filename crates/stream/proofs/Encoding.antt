@@ -1,26 +1,27 @@
 -- The hybrid against the grammar.
-use Rattle.std.proofs.Common.{◌≡◌, ℕ, zero, suc, ◌+◌, ◌-◌, ◌*◌, ◌/◌, ◌%◌, ◌<◌, ◌≤◌, cond, eqb, ltb, leb, ◌⊎◌, List, [], ◌∷◌, ◌++◌, length, take, drop, replicate, sym, refl, ap, ◌∙◌, subst, inl, inr, mul_assoc, mul_comm, arith}
+use Rattle.std.proofs.Common.{◌≡◌, ℕ, zero, suc, ◌+◌, ◌-◌, ◌*◌, ◌/◌, ◌%◌, ◌<◌, ◌≤◌, cond, Option, None, Some, Result, Ok, Err, eqb, ltb, leb, ◌⊎◌, List, [], ◌∷◌, ◌++◌, length, take, drop, replicate, sym, refl, ap, ◌∙◌, subst, inl, inr, mul_assoc, mul_comm, arith}
 use Rattle.std.proofs.lemmas.List.{append_assoc, length-append, drop-drop, drop_at, take_at, take-append-drop, length-take-le, length-drop}
 use Rattle.std.proofs.ByRecursion.{All-take, All-drop, All-append}
 use Rattle.std.proofs.lemmas.Bool.{lt-ltb, le-ltb, le-leb, eq-eqb, ne_eqb, leb-true, cond-true, cond-false, cases_lt, cases_Bool}
 use Rattle.std.specs.List.{AllByRecursion}
 use Rattle.stream.specs.Grammar.{Below, Fills, Varint, last_byte, byte_then, Encodes, nothing, rle_run, bit_packed_run}
 use Rattle.stream.specs.Packing.{le, low_first}
-use Rattle.stream.specs.Streams.{Run, repeated, packed, Stop, finished, header_zero, cut_header, cut_run, long_header, long_run, no_value, Runs, no_runs, then_runs, numbers_of, end_of, longest, value_bytes, over, header, run_length, groups, start, follow, runs_from, clean, hybrid}
+use Rattle.stream.specs.Streams.{Run, repeated, packed, Stop, finished, header_zero, cut_header, cut_run, long_header, long_run, no_value, Runs, no_runs, then_runs, numbers_of, end_of, longest, value_bytes, over, header, header_of, stop_of, run_length, groups, start, follow, runs_from, clean, hybrid}
 use Rattle.stream.specs.Theorems.{ReadsWhatIsEncoded, EncodedWhereItReads, CleanIsEncodedOrOurs, HasNumbers, Ours, with_header_zero, with_cut_header, with_cut_run, with_no_groups}
 use Rattle.stream.specs.declared.header.Header.{Header}
-use Rattle.stream.specs.declared.header.Header.TheVariants.{Cut, Long, Is}
+use Rattle.stream.specs.declared.header.RunFault.{RunFault}
+use Rattle.stream.specs.declared.header.RunFault.TheVariants.{LongHeader, LongRun, NoValue}
 use Rattle.stream.specs.declared.header.Start.{Start}
-use Rattle.stream.specs.declared.header.Start.TheVariants.{Over, TooLong, NoValue, Repeated, Packed}
+use Rattle.stream.specs.declared.header.Start.TheVariants.{Repeated, Packed}
 use Rattle.stream.proofs.Filling.{length_below, fills_read, fills_once, fills_length, fills_value}
 use Rattle.stream.proofs.Flow.{all_of, flow_good, flow_clean, flow_clean_stop}
-use Rattle.stream.proofs.Runs.{runs_at, runs_start, first_cut, first_long, repeated_bounds, repeated_header, packed_bounds}
+use Rattle.stream.proofs.Runs.{runs_at, runs_start, first_cut, first_fault, repeated_bounds, repeated_header, packed_bounds}
 
 -- A varint is what the definition reads as a header.
 pub varint_header : {n : ℕ} {hs : List ℕ} → Varint n hs → (k : ℕ) → length hs ≤ k → (rest : List ℕ)
-    → (m : ℕ) × (length hs ≡ suc m) × (header k (hs ++ rest) ≡ Is n m)
+    → (m : ℕ) × (length hs ≡ suc m) × (header k (hs ++ rest) ≡ header_of n m)
 varint_header (last_byte b h) zero l rest = absurd (omega arith)
-varint_header (last_byte b h) (suc k) l rest = (0, refl, ap (λ t. cond t (Is b 0) (over (b - 128) (header k rest))) (lt-ltb b 128 h))
+varint_header (last_byte b h) (suc k) l rest = (0, refl, ap (λ t. cond t (header_of b 0) (over (b - 128) (header k rest))) (lt-ltb b 128 h))
 varint_header (byte_then b n bs h v) zero l rest = absurd (omega arith)
 varint_header (byte_then b n bs h v) (suc k) l rest =
     let r = varint_header v k (omega arith) rest in
@@ -30,31 +31,39 @@ varint_header (byte_then b n bs h v) (suc k) l rest =
     let f : r.0 + 1 ≡ suc r.0 = omega arith in (
       suc r.0,
       ap suc r.1,
-      ap (λ t. cond t (Is x 0) (over (x - 128) (header k (bs ++ rest)))) (le-ltb x 128 big)
-          ∙ (ap (over (x - 128)) r.2 ∙ (ap (λ z. Is z (r.0 + 1)) e ∙ ap (Is (b + 128 * n)) f)),
+      ap (λ t. cond t (header_of x 0) (over (x - 128) (header k (bs ++ rest)))) (le-ltb x 128 big)
+          ∙ (ap (over (x - 128)) r.2 ∙ (ap (λ z. header_of z (r.0 + 1)) e ∙ ap (header_of (b + 128 * n)) f)),
     )
 
 pub varint_bytes : {n : ℕ} {hs : List ℕ} → Varint n hs → Below 256 hs
 varint_bytes (last_byte b h) = (omega arith, tt)
 varint_bytes (byte_then b n bs h v) = (omega arith, varint_bytes v)
 
-over_is : (lo : ℕ) (r : Header) (h n : ℕ) → over lo r ≡ Is h n → (p : ℕ) × (q : ℕ) × (r ≡ Is p q) × (h ≡ lo + 128 * p) × (n ≡ q + 1)
-over_is lo Cut h n e = let z : ◌≡◌ {A = ℕ} 0 1 = cc in absurd (omega arith)
-over_is lo Long h n e = let z : ◌≡◌ {A = ℕ} 0 1 = cc in absurd (omega arith)
-over_is lo (Is p q) h n e = (p, q, refl, (cc), (cc))
+same_header : (a b h n : ℕ) → header_of a b ≡ header_of h n → (a ≡ h) × (b ≡ n)
+same_header a b h n e =
+    let p : ◌≡◌ {A = Header} (record { number = a; more = b }) (record { number = h; more = n }) = cc in
+    (ap (λ (q : Header). q.number) p, ap (λ (q : Header). q.more) p)
 
-header_step : (k b : ℕ) (bs : List ℕ) (h n : ℕ) → b < 256 → header (suc k) (b ∷ bs) ≡ Is h n
-    → ((p q : ℕ) → header k bs ≡ Is p q → (Varint p (take (suc q) bs)) × (q < k) × (q < length bs))
+over_is : (lo : ℕ) (r : Result (Option Header) RunFault) (h n : ℕ) → over lo r ≡ header_of h n → (p : ℕ) × (q : ℕ) × (r ≡ header_of p q) × (h ≡ lo + 128 * p) × (n ≡ q + 1)
+over_is lo (Ok None) h n e = let z : ◌≡◌ {A = ℕ} 0 1 = cc in absurd (omega arith)
+over_is lo (Err f) h n e = let z : ◌≡◌ {A = ℕ} 0 1 = cc in absurd (omega arith)
+over_is lo (Ok (Some g)) h n e =
+    let s = same_header (lo + 128 * g.number) (g.more + 1) h n e in
+    (g.number, g.more, refl, sym s.0, sym s.1)
+
+header_step : (k b : ℕ) (bs : List ℕ) (h n : ℕ) → b < 256 → header (suc k) (b ∷ bs) ≡ header_of h n
+    → ((p q : ℕ) → header k bs ≡ header_of p q → (Varint p (take (suc q) bs)) × (q < k) × (q < length bs))
     → (Varint h (take (suc n) (b ∷ bs))) × (n < suc k) × (n < suc (length bs))
 header_step k b bs h n lt e more =
     elim (cases_lt b 128) [
       | inl l ↦
-          (let s : Is b 0 ≡ Is h n = sym (ap (λ t. cond t (Is b 0) (over (b - 128) (header k bs))) (lt-ltb b 128 l)) ∙ e in
-          let hb : b ≡ h = cc in
-          let nz : 0 ≡ n = cc in
+          (let s : header_of b 0 ≡ header_of h n = sym (ap (λ t. cond t (header_of b 0) (over (b - 128) (header k bs))) (lt-ltb b 128 l)) ∙ e in
+          let f = same_header b 0 h n s in
+          let hb : b ≡ h = f.0 in
+          let nz : 0 ≡ n = f.1 in
           (subst (λ x. Varint x (take (suc n) (b ∷ bs))) hb (subst (λ j. Varint b (b ∷ take j bs)) nz (last_byte b l)), omega arith, omega arith))
       | inr g ↦
-          (let s : over (b - 128) (header k bs) ≡ Is h n = sym (ap (λ t. cond t (Is b 0) (over (b - 128) (header k bs))) (le-ltb b 128 g)) ∙ e in
+          (let s : over (b - 128) (header k bs) ≡ header_of h n = sym (ap (λ t. cond t (header_of b 0) (over (b - 128) (header k bs))) (le-ltb b 128 g)) ∙ e in
           let o = over_is (b - 128) (header k bs) h n s in
           let p : ℕ = o.0 in
           let q : ℕ = o.1 in
@@ -70,13 +79,13 @@ header_step k b bs h n lt e more =
           ))
     ]
 
-pub header_varint : (k : ℕ) (bs : List ℕ) (h n : ℕ) → Below 256 bs → header k bs ≡ Is h n → (Varint h (take (suc n) bs)) × (n < k) × (n < length bs)
+pub header_varint : (k : ℕ) (bs : List ℕ) (h n : ℕ) → Below 256 bs → header k bs ≡ header_of h n → (Varint h (take (suc n) bs)) × (n < k) × (n < length bs)
 header_varint zero bs h n b e = let z : ◌≡◌ {A = ℕ} 0 1 = cc in absurd (omega arith)
 header_varint (suc k) [] h n b e = let z : ◌≡◌ {A = ℕ} 0 1 = cc in absurd (omega arith)
 header_varint (suc k) (x ∷ bs) h n b e = header_step k x bs h n b.0 e (λ p q f. header_varint k bs p q b.1 f)
 
 -- What a header of the grammar announces.
-pub start_repeated : (w c : ℕ) (bs : List ℕ) → 1 ≤ c → c ≤ longest → value_bytes w ≤ length bs → start w (2 * c) bs ≡ Repeated c (le (take (value_bytes w) bs))
+pub start_repeated : (w c : ℕ) (bs : List ℕ) → 1 ≤ c → c ≤ longest → value_bytes w ≤ length bs → start w (2 * c) bs ≡ Ok (Some (Repeated c (le (take (value_bytes w) bs))))
 start_repeated w c bs low high l =
     let h : ℕ = 2 * c in
     let nz : h ≡ 0 → ⊥ = λ z. omega arith in
@@ -87,13 +96,13 @@ start_repeated w c bs low high l =
     cond-false (eqb h 0) _ _ (ne_eqb h 0 nz)
     ∙ (cond-false (ltb longest (run_length h)) _ _ (le-ltb longest (run_length h) most)
     ∙ (cond-true (eqb (h % 2) 0) _ _ (eq-eqb (h % 2) 0 ev)
-    ∙ (cond-false (ltb (length bs) (value_bytes w)) _ _ (le-ltb (length bs) (value_bytes w) l) ∙ ap (λ n. Repeated n (le (take (value_bytes w) bs))) half)))
+    ∙ (cond-false (ltb (length bs) (value_bytes w)) _ _ (le-ltb (length bs) (value_bytes w) l) ∙ ap (λ n. Ok (Some (Repeated n (le (take (value_bytes w) bs))))) half)))
 
-groups_some : (g : ℕ) → 1 ≤ g → groups g ≡ Packed g
+groups_some : (g : ℕ) → 1 ≤ g → groups g ≡ Ok (Some (Packed g))
 groups_some zero l = absurd (omega arith)
 groups_some (suc g) l = refl
 
-pub start_packed : (w g : ℕ) (bs : List ℕ) → 1 ≤ g → 8 * g ≤ longest → start w (2 * g + 1) bs ≡ Packed g
+pub start_packed : (w g : ℕ) (bs : List ℕ) → 1 ≤ g → 8 * g ≤ longest → start w (2 * g + 1) bs ≡ Ok (Some (Packed g))
 start_packed w g bs low high =
     let h : ℕ = 2 * g + 1 in
     let nz : h ≡ 0 → ⊥ = λ z. omega arith in
@@ -127,9 +136,9 @@ repeated_in_front w c k v head value bs low high h ten up_to_lem over_by fills =
     let front : take (value_bytes w) (value ++ bs) ≡ value = take_at value bs (value_bytes w) (omega arith) in
     let one : (v ∷ []) ≡ (le value ∷ []) = fills_once (8 * k) (le value ∷ []) (v ∷ []) value refl (fills_value k value fills.bytes size) fills in
     let is : le value ≡ v = cc in
-    let s : start w (2 * c) (drop (0 + 1 + m) d) ≡ Repeated c v =
-    ap (start w (2 * c)) at ∙ (start_repeated w c (value ++ bs) low high long ∙ (ap (λ t. Repeated c (le t)) front ∙ ap (Repeated c) is)) in
-    runs_start w 0 d (2 * c) m (Repeated c v) r.2 s ∙ ap (then_runs (repeated c v)) (runs_behind w m (value_bytes w) head value bs r.1 (omega arith))
+    let s : start w (2 * c) (drop (0 + 1 + m) d) ≡ Ok (Some (Repeated c v)) =
+    ap (start w (2 * c)) at ∙ (start_repeated w c (value ++ bs) low high long ∙ (ap (λ t. Ok (Some (Repeated c (le t)))) front ∙ ap (λ t. Ok (Some (Repeated c t))) is)) in
+    runs_start w 0 d (2 * c) m (Ok (Some (Repeated c v))) r.2 s ∙ ap (then_runs (repeated c v)) (runs_behind w m (value_bytes w) head value bs r.1 (omega arith))
 
 pub packed_in_front : (w g : ℕ) (head ys run bs : List ℕ) → 1 ≤ g → 8 * g ≤ longest → Varint (2 * g + 1) head → length head ≤ 10
     → length ys ≡ 8 * g → Fills w ys run → Below 256 bs
@@ -146,9 +155,9 @@ packed_in_front w g head ys run bs low high h ten eight fills rest =
     let read : Fills w (low_first w (8 * g) (run ++ bs)) run =
     subst (λ t. Fills w (low_first w (8 * g) (run ++ bs)) t) front (fills_read w (8 * g) (w * g) (run ++ bs) (All-append (λ b. b < 256) run bs fills.bytes rest) bits long) in
     let is : low_first w (8 * g) (run ++ bs) ≡ ys = fills_once w ys (low_first w (8 * g) (run ++ bs)) run (eight ∙ sym (length_below w (8 * g) (le (run ++ bs)))) fills read in
-    let s : start w (2 * g + 1) (drop (0 + 1 + m) d) ≡ Packed g = start_packed w g (drop (0 + 1 + m) d) low high in
-    runs_start w 0 d (2 * g + 1) m (Packed g) r.2 s
-    ∙ (ap (λ t. follow w t (Packed g) (λ k. runs_from w (0 + 1 + m + k) d)) at
+    let s : start w (2 * g + 1) (drop (0 + 1 + m) d) ≡ Ok (Some (Packed g)) = start_packed w g (drop (0 + 1 + m) d) low high in
+    runs_start w 0 d (2 * g + 1) m (Ok (Some (Packed g))) r.2 s
+    ∙ (ap (λ t. follow w t (Ok (Some (Packed g))) (λ k. runs_from w (0 + 1 + m + k) d)) at
     ∙ (cond-true (leb (w * g) (length (run ++ bs))) _ _ (le-leb (w * g) (length (run ++ bs)) long)
     ∙ (ap (λ t. then_runs (packed t) (runs_from w (0 + 1 + m + w * g) d)) is ∙ ap (then_runs (packed ys)) (runs_behind w m (w * g) head run bs r.1 size))))
 
@@ -215,19 +224,25 @@ some_groups : (w g : ℕ) (bs : List ℕ) → HasNumbers (packed (low_first w (8
 some_groups w zero bs h = absurd h
 some_groups w (suc g) bs h = omega arith
 
+-- a fault is no end of the bytes
+not_finished : (f : RunFault) → stop_of f ≡ finished → ⊥
+not_finished LongHeader e = let z : ◌≡◌ {A = ℕ} 0 1 = cc in omega arith
+not_finished LongRun e = let z : ◌≡◌ {A = ℕ} 0 1 = cc in omega arith
+not_finished NoValue e = let z : ◌≡◌ {A = ℕ} 0 1 = cc in omega arith
+
 -- one run in front of an encoding
-module _ (w h n : ℕ) (d : List ℕ) (through : RunsThrough w d) (head : header 10 d ≡ Is h n) where
-  encoded_repeated : (c v : ℕ) → start w h (drop (0 + 1 + n) d) ≡ Repeated c v → ((k : ℕ) → RunsThrough w (drop (suc k) d) → Encoded w (drop (suc k) d)) → Encoded w d
+module _ (w h n : ℕ) (d : List ℕ) (through : RunsThrough w d) (head : header 10 d ≡ header_of h n) where
+  encoded_repeated : (c v : ℕ) → start w h (drop (0 + 1 + n) d) ≡ Ok (Some (Repeated c v)) → ((k : ℕ) → RunsThrough w (drop (suc k) d) → Encoded w (drop (suc k) d)) → Encoded w d
   encoded_repeated c v s ih =
       let k : ℕ = value_bytes w in
       let ds : List ℕ = drop (suc n) d in
       let e1 : 0 + 1 + n ≡ suc n = omega arith in
-      let s1 : start w h ds ≡ Repeated c v = ap (λ j. start w h (drop j d)) (sym e1) ∙ s in
+      let s1 : start w h ds ≡ Ok (Some (Repeated c v)) = ap (λ j. start w h (drop j d)) (sym e1) ∙ s in
       let bound = repeated_bounds w h ds c v s1 in
       let twice : h ≡ 2 * c = repeated_header w h ds c v s1 in
       let varint = header_varint 10 d h n through.0 head in
       let rest : List ℕ = drop (suc n + k) d in
-      let run : runs_from w 0 d ≡ then_runs (repeated c v) (runs_from w 0 rest) = runs_start w 0 d h n (Repeated c v) head s ∙ ap (then_runs (repeated c v)) (runs_cut w n k d) in
+      let run : runs_from w 0 d ≡ then_runs (repeated c v) (runs_from w 0 rest) = runs_start w 0 d h n (Ok (Some (Repeated c v))) head s ∙ ap (then_runs (repeated c v)) (runs_cut w n k d) in
       let on = through_behind w d rest (repeated c v) through (All-drop (λ b. b < 256) (suc n + k) d through.0) run in
       let e2 : suc n + k ≡ suc (n + k) = omega arith in
       let later : Encoded w rest = subst (λ j. RunsThrough w (drop j d) → Encoded w (drop j d)) (sym e2) (ih (n + k)) on.0 in
@@ -239,14 +254,14 @@ module _ (w h n : ℕ) (d : List ℕ) (through : RunsThrough w d) (head : header
       (omega (arith, varint.1, length-take-le (suc n) d (omega (arith, varint.2)))) (omega arith) (omega arith) (subst (λ x. Fills (8 * k) (x ∷ []) value) (sym bound.3) fills) later in
       subst (λ xs. Encodes w xs d) (sym (ap (λ r. all_of r.runs) run)) (subst (Encodes w (replicate c v ++ all_of (runs_from w 0 rest).runs)) (three_parts (suc n) k d) enc)
 
-  encoded_packed : (g : ℕ) → start w h (drop (0 + 1 + n) d) ≡ Packed g → ((k : ℕ) → RunsThrough w (drop (suc k) d) → Encoded w (drop (suc k) d)) → Encoded w d
+  encoded_packed : (g : ℕ) → start w h (drop (0 + 1 + n) d) ≡ Ok (Some (Packed g)) → ((k : ℕ) → RunsThrough w (drop (suc k) d) → Encoded w (drop (suc k) d)) → Encoded w d
   encoded_packed g s ih =
       elim (cases_Bool (leb (w * g) (length (drop (0 + 1 + n) d)))) [
         | inl there ↦ whole (leb-true (w * g) (length (drop (0 + 1 + n) d)) there)
-            (runs_start w 0 d h n (Packed g) head s ∙ cond-true (leb (w * g) (length (drop (0 + 1 + n) d))) _ _ there)
+            (runs_start w 0 d h n (Ok (Some (Packed g))) head s ∙ cond-true (leb (w * g) (length (drop (0 + 1 + n) d))) _ _ there)
         | inr cut ↦
             (let e : runs_from w 0 d ≡ then_runs (packed (low_first w (8 * length (drop (0 + 1 + n) d) / w) (drop (0 + 1 + n) d))) (no_runs cut_run) =
-            runs_start w 0 d h n (Packed g) head s ∙ cond-false (leb (w * g) (length (drop (0 + 1 + n) d))) _ _ cut in
+            runs_start w 0 d h n (Ok (Some (Packed g))) head s ∙ cond-false (leb (w * g) (length (drop (0 + 1 + n) d))) _ _ cut in
             let stops : cut_run ≡ finished = sym (ap (λ r. r.stop) e) ∙ through.1 in
             let z : ◌≡◌ {A = ℕ} 0 1 = cc in
             absurd (omega arith))
@@ -275,17 +290,16 @@ module _ (w h n : ℕ) (d : List ℕ) (through : RunsThrough w d) (head : header
           (omega (arith, varint.1, length-take-le (suc n) d (omega (arith, varint.2)))) (length_below w (8 * g) (le ds)) fills later in
           subst (λ xs. Encodes w xs d) (sym (ap (λ r. all_of r.runs) run)) (subst (Encodes w (ys ++ all_of (runs_from w 0 rest).runs)) (three_parts (suc n) k d) enc)
 
-  encoded_run : (s : Start) → start w h (drop (0 + 1 + n) d) ≡ s → ((k : ℕ) → RunsThrough w (drop (suc k) d) → Encoded w (drop (suc k) d)) → Encoded w d
-  encoded_run Over s ih = not_through w d header_zero through (runs_start w 0 d h n Over head s) (λ e. let z : ◌≡◌ {A = ℕ} 0 1 = cc in omega arith)
-  encoded_run TooLong s ih = not_through w d long_run through (runs_start w 0 d h n TooLong head s) (λ e. let z : ◌≡◌ {A = ℕ} 0 1 = cc in omega arith)
-  encoded_run NoValue s ih = not_through w d no_value through (runs_start w 0 d h n NoValue head s) (λ e. let z : ◌≡◌ {A = ℕ} 0 1 = cc in omega arith)
-  encoded_run (Repeated c v) s ih = encoded_repeated c v s ih
-  encoded_run (Packed g) s ih = encoded_packed g s ih
+  encoded_run : (s : Result (Option Start) RunFault) → start w h (drop (0 + 1 + n) d) ≡ s → ((k : ℕ) → RunsThrough w (drop (suc k) d) → Encoded w (drop (suc k) d)) → Encoded w d
+  encoded_run (Err f) s ih = not_through w d (stop_of f) through (runs_start w 0 d h n (Err f) head s) (not_finished f)
+  encoded_run (Ok None) s ih = not_through w d header_zero through (runs_start w 0 d h n (Ok None) head s) (λ e. let z : ◌≡◌ {A = ℕ} 0 1 = cc in omega arith)
+  encoded_run (Ok (Some (Repeated c v))) s ih = encoded_repeated c v s ih
+  encoded_run (Ok (Some (Packed g))) s ih = encoded_packed g s ih
 
-encoded_head : (w : ℕ) (d : List ℕ) (r : Header) → header 10 d ≡ r → 0 < length d → RunsThrough w d → ((k : ℕ) → RunsThrough w (drop (suc k) d) → Encoded w (drop (suc k) d)) → Encoded w d
-encoded_head w d Cut e l t ih = not_through w d cut_header t (first_cut w d e l) (λ e. let z : ◌≡◌ {A = ℕ} 0 1 = cc in omega arith)
-encoded_head w d Long e l t ih = not_through w d long_header t (first_long w d e) (λ e. let z : ◌≡◌ {A = ℕ} 0 1 = cc in omega arith)
-encoded_head w d (Is h n) e l t ih = encoded_run w h n d t e (start w h (drop (0 + 1 + n) d)) refl ih
+encoded_head : (w : ℕ) (d : List ℕ) (r : Result (Option Header) RunFault) → header 10 d ≡ r → 0 < length d → RunsThrough w d → ((k : ℕ) → RunsThrough w (drop (suc k) d) → Encoded w (drop (suc k) d)) → Encoded w d
+encoded_head w d (Err f) e l t ih = not_through w d (stop_of f) t (first_fault w d f e) (not_finished f)
+encoded_head w d (Ok None) e l t ih = not_through w d cut_header t (first_cut w d e l) (λ e. let z : ◌≡◌ {A = ℕ} 0 1 = cc in omega arith)
+encoded_head w d (Ok (Some p)) e l t ih = encoded_run w p.number p.more d t e (start w p.number (drop (0 + 1 + p.more) d)) refl ih
 
 encoded_upto : (most w : ℕ) (bs : List ℕ) → length bs ≤ most → RunsThrough w bs → Encoded w bs
 encoded_upto most w [] l t = nothing

@@ -1,7 +1,6 @@
 -- What some small streams mean, computed from the definition.
 use Rattle.std.specs.Prelude.{◌≡◌, ℕ, List, [], ◌∷◌}
-use Rattle.stream.specs.Streams.{End, clean, fault, Stream, hybrid, bit_packed, runs_from, repeated, finished, header_zero, long_run, no_runs, then_runs, header}
-use Rattle.stream.specs.declared.header.Header.TheVariants.{Is}
+use Rattle.stream.specs.Streams.{End, clean, fault, Stream, hybrid, bit_packed, runs_from, repeated, finished, header_zero, long_run, no_runs, then_runs, header_of, header}
 
 -- a stream is these numbers, then this end
 abbrev pub Gives : Stream → List ℕ → End → Type 0
@@ -48,8 +47,8 @@ LongCases =
 -- Headers of more bytes than they need: the number is what counts, also where it is 0.
 abbrev pub HeaderCases : Type 0
 HeaderCases =
-    (header 10 (0x86 ∷ 0x00 ∷ []) ≡ Is 6 1)
-    × (header 10 (0x80 ∷ 0x00 ∷ []) ≡ Is 0 1)
+    (header 10 (0x86 ∷ 0x00 ∷ []) ≡ header_of 6 1)
+    × (header 10 (0x80 ∷ 0x00 ∷ []) ≡ header_of 0 1)
     × (runs_from 1 0 (0x80 ∷ 0x00 ∷ 0x02 ∷ 0x01 ∷ []) ≡ no_runs header_zero)
 
 -- BIT_PACKED: the format text's own example.

@@ -1,9 +1,10 @@
 -- What bytes mean as a stream of numbers, for the hybrid of runs and bit-packing (encoding 3) and for BIT_PACKED (encoding 4).
-use Rattle.std.specs.Prelude.{ℕ, zero, suc, ◌+◌, ◌-◌, ◌*◌, ◌/◌, ◌%◌, cond, List, [], ◌∷◌, length, take, drop, replicate, ◌==◌, nat_le, nat_lt}
+use Rattle.std.specs.Prelude.{ℕ, zero, suc, ◌+◌, ◌-◌, ◌*◌, ◌/◌, ◌%◌, cond, List, [], ◌∷◌, length, take, drop, replicate, ◌==◌, nat_le, nat_lt, Option, None, Some, Result, Ok, Err}
 use Rattle.stream.specs.declared.header.Header.{Header}
-use Rattle.stream.specs.declared.header.Header.TheVariants.{Cut, Long, Is}
+use Rattle.stream.specs.declared.header.RunFault.{RunFault}
+use Rattle.stream.specs.declared.header.RunFault.TheVariants.{LongHeader, LongRun, NoValue}
 use Rattle.stream.specs.declared.header.Start.{Start}
-use Rattle.stream.specs.declared.header.Start.TheVariants.{Over, TooLong, NoValue, Repeated, Packed}
+use Rattle.stream.specs.declared.header.Start.TheVariants.{Repeated, Packed}
 use Rattle.stream.specs.Packing.{le, low_first, high_first}
 
 -- how a stream ends
@@ -83,56 +84,66 @@ longest = 2147483647
 abbrev pub value_bytes : ℕ → ℕ
 value_bytes w = (w + 7) / 8
 
--- the group of seven bits `lo` below the rest of a header
-abbrev pub over : ℕ → Header → Header
-over lo Cut = Cut
-over lo Long = Long
-over lo (Is h n) = Is (lo + 128 * h) (n + 1)
+-- the header that is the number `h`, with `n` bytes behind its first
+abbrev pub header_of : ℕ → ℕ → Result (Option Header) RunFault
+header_of h n = Ok (Some (record { number = h; more = n }))
 
--- the header in front, of at most `k` bytes: groups of seven bits, lowest first, the top bit set on all bytes but the last
-abbrev pub header : ℕ → List ℕ → Header
-header zero bs = Long
-header (suc k) [] = Cut
-header (suc k) (b ∷ bs) = cond (nat_lt b 128) (Is b 0) (over (b - 128) (header k bs))
+-- the group of seven bits `lo` below the rest of a header
+abbrev pub over : ℕ → Result (Option Header) RunFault → Result (Option Header) RunFault
+over lo (Err f) = Err f
+over lo (Ok None) = Ok None
+over lo (Ok (Some h)) = header_of (lo + 128 * h.number) (h.more + 1)
+
+-- The header in front, of at most `k` bytes: groups of seven bits, lowest first, the top bit set on all bytes but the last. There is none where the bytes
+-- end within it.
+abbrev pub header : ℕ → List ℕ → Result (Option Header) RunFault
+header zero bs = Err LongHeader
+header (suc k) [] = Ok None
+header (suc k) (b ∷ bs) = cond (nat_lt b 128) (header_of b 0) (over (b - 128) (header k bs))
 
 -- how many numbers the run of a header has
 abbrev pub run_length : ℕ → ℕ
 run_length h = cond (h % 2 == 0) (h / 2) (8 * (h / 2))
 
 -- The rule for a packed run of no groups (header 1). It is passed over; the format text has runs of 1 to 2^31 - 1 numbers and does not say what a reader does with one.
-abbrev pub no_groups : Start
-no_groups = Packed 0
+abbrev pub no_groups : Result (Option Start) RunFault
+no_groups = Ok (Some (Packed 0))
 
 -- the run that a packed header of `g` groups announces
-abbrev pub groups : ℕ → Start
+abbrev pub groups : ℕ → Result (Option Start) RunFault
 groups zero = no_groups
-groups (suc g) = Packed (suc g)
+groups (suc g) = Ok (Some (Packed (suc g)))
 
--- the run that the header `h` announces, where `bs` is what lies behind the header
-abbrev pub start : ℕ → ℕ → List ℕ → Start
+-- the run that the header `h` announces, where `bs` is what lies behind the header; none at header 0, behind which nothing counts
+abbrev pub start : ℕ → ℕ → List ℕ → Result (Option Start) RunFault
 start w h bs =
-    cond (h == 0) Over
-    (cond (nat_lt longest (run_length h)) TooLong
+    cond (h == 0) (Ok None)
+    (cond (nat_lt longest (run_length h)) (Err LongRun)
     (cond (h % 2 == 0)
-    (cond (nat_lt (length bs) (value_bytes w)) NoValue (Repeated (h / 2) (le (take (value_bytes w) bs))))
+    (cond (nat_lt (length bs) (value_bytes w)) (Err NoValue) (Ok (Some (Repeated (h / 2) (le (take (value_bytes w) bs))))))
     (groups (h / 2))))
 
+-- why a fault leaves no further run
+abbrev pub stop_of : RunFault → Stop
+stop_of LongHeader = long_header
+stop_of LongRun = long_run
+stop_of NoValue = no_value
+
 -- a run and what follows it, where `go k` is the runs in the bytes behind the first `k` of `bs`
-abbrev pub follow : ℕ → List ℕ → Start → (ℕ → Runs) → Runs
-follow w bs Over go = no_runs header_zero
-follow w bs TooLong go = no_runs long_run
-follow w bs NoValue go = no_runs no_value
-follow w bs (Repeated n v) go = then_runs (repeated n v) (go (value_bytes w))
-follow w bs (Packed g) go =
+abbrev pub follow : ℕ → List ℕ → Result (Option Start) RunFault → (ℕ → Runs) → Runs
+follow w bs (Err f) go = no_runs (stop_of f)
+follow w bs (Ok None) go = no_runs header_zero
+follow w bs (Ok (Some (Repeated n v))) go = then_runs (repeated n v) (go (value_bytes w))
+follow w bs (Ok (Some (Packed g))) go =
     cond (nat_le (w * g) (length bs))
     (then_runs (packed (low_first w (8 * g) bs)) (go (w * g)))
     (then_runs (packed (low_first w (8 * length bs / w) bs)) (no_runs cut_run))
 
 -- the same from the header on; `bs` is what lies behind the header's first byte
-abbrev pub by_header : ℕ → Header → List ℕ → (ℕ → Runs) → Runs
-by_header w Cut bs go = no_runs cut_header
-by_header w Long bs go = no_runs long_header
-by_header w (Is h n) bs go = follow w (drop n bs) (start w h (drop n bs)) (λ k. go (n + k))
+abbrev pub by_header : ℕ → Result (Option Header) RunFault → List ℕ → (ℕ → Runs) → Runs
+by_header w (Err f) bs go = no_runs (stop_of f)
+by_header w (Ok None) bs go = no_runs cut_header
+by_header w (Ok (Some h)) bs go = follow w (drop h.more bs) (start w h.number (drop h.more bs)) (λ k. go (h.more + k))
 
 -- the runs in the bytes behind the first `k`, at the width `w`
 abbrev pub runs_from : ℕ → ℕ → List ℕ → Runs

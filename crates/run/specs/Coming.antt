@@ -1,5 +1,5 @@
 -- What a reader is still to give.
-use Rattle.std.specs.Prelude.{◌≡◌, ◌<◌, ◌≤◌, ◌⊎◌, ℕ, List, [], take, Option, None, Some, Result, Ok, Err, length}
+use Rattle.std.specs.Prelude.{◌≡◌, ◌<◌, ◌≤◌, ◌⊎◌, ℕ, List, [], take, Bool, true, false, Result, Ok, Err, length}
 use Rattle.stream.specs.Streams.{Stream, within, hybrid, ended, clean, fault}
 use Rattle.run.specs.Runs.{left_of}
 use Rattle.run.specs.Reading.{onto}
@@ -24,8 +24,8 @@ pub record Steps (s : RunReader) (k : ℕ) (t : RunReader) : Type 0 where
 abbrev pub Stopped : RunReader → Type 0
 Stopped r = (left_of r.run ≡ []) ⊎ (to_come r ≡ ended fault)
 
--- what goes on from the reader `s`, which has stopped: a reader at the next run, or the end
-abbrev pub Continues : RunReader → Result (Option RunReader) StreamFault → Type 0
-Continues s (Ok (Some t)) = (to_come s ≡ to_come t) × (length t.bytes.now < length s.bytes.now)
-Continues s (Ok None) = to_come s ≡ ended clean
-Continues s (Err f) = to_come s ≡ ended fault
+-- what going on from the reader `s`, which has stopped, replies and leaves: the reader `t` at the next run, or at the end
+abbrev pub Continues : RunReader → Result Bool StreamFault → RunReader → Type 0
+Continues s (Ok true) t = (to_come s ≡ to_come t) × (length t.bytes.now < length s.bytes.now)
+Continues s (Ok false) t = (to_come s ≡ ended clean) × (to_come t ≡ ended clean)
+Continues s (Err f) t = (to_come s ≡ ended fault) × (to_come t ≡ ended fault)

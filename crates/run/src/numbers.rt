@@ -18,16 +18,15 @@ impl<'a> Part<'a> {
         self
     }
 
-    /// The numbers behind the first `n`.
-    pub(crate) fn behind(mut self, n: usize) -> Part<'a>
-        requires { n ≤ self.count }
-        ensures count { result.count ≡ self.entry.count - n }
-        ensures is { numbers result ≡ drop n (numbers self.entry) }
+    /// Passes over the first `n` of the numbers.
+    pub(crate) fn advance(&mut self, n: usize)
+        requires { n ≤ self.old.count }
+        ensures count { self.new.count ≡ self.old.count - n }
+        ensures is { numbers self.new ≡ drop n (numbers self.old) }
     {
         // In this order, so that the numbers lie whole in the bytes at each step.
         self.count -= n;
         self.skip += n;
-        self
     }
 
     /// Writes the numbers; there are as many places.

@@ -18,8 +18,10 @@ impl<'a> RunReader<'a> {
     {
         let mut run = *self;
         let k = run.read_some(out)?;
-        // Fewer come only before an end or a fault; a step more tells which.
-        let _ = run.skip_some(out.len() - k)?;
+        if k < out.len() {
+            // An end or a fault is next; a step more tells which.
+            let _ = run.skip_some(1)?;
+        }
         *self = run;
         Ok(k)
     }
@@ -32,7 +34,9 @@ impl<'a> RunReader<'a> {
     {
         let mut run = *self;
         let k = run.skip_some(m)?;
-        let _ = run.skip_some(m - k)?;
+        if k < m {
+            let _ = run.skip_some(1)?;
+        }
         *self = run;
         Ok(k)
     }
@@ -51,7 +55,7 @@ impl<'a> RunReader<'a> {
                 return Ok(k);
             }
             match self.next_run() {
-                Ok(Some(next)) => *self = next,
+                Ok(true) => {}
                 Err(fault) if k == 0 => return Err(fault),
                 _ => return Ok(k),
             }
@@ -70,7 +74,7 @@ impl<'a> RunReader<'a> {
                 return Ok(passed);
             }
             match self.next_run() {
-                Ok(Some(next)) => *self = next,
+                Ok(true) => {}
                 Err(fault) if passed == 0 => return Err(fault),
                 _ => return Ok(passed),
             }

@@ -29,18 +29,15 @@ impl<'a> Run<'a> {
         }
     }
 
-    /// The run behind its next `n` numbers.
+    /// Passes over its next `n` numbers.
     #[tactic(auto, using(crate::proofs::Parts::numbers_length))]
-    fn behind(self, n: usize) -> Run<'a>
-        requires { n ≤ length (left_of self) }
-        ensures { left_of result ≡ drop n (left_of self.entry) }
+    fn advance(&mut self, n: usize)
+        requires { n ≤ length (left_of self.old) }
+        ensures { left_of self.new ≡ drop n (left_of self.old) }
     {
         match self {
-            Run::Repeated { value, count } => Run::Repeated {
-                value,
-                count: count - n,
-            },
-            Run::Packed(part) => Run::Packed(part.behind(n)),
+            Run::Repeated { count, .. } => *count -= n,
+            Run::Packed(part) => part.advance(n),
         }
     }
 
@@ -86,7 +83,7 @@ impl<'a> RunReader<'a> {
     {
         let n = self.run.len().min(out.len());
         let k = self.run.unpack_good(self.limit, &mut out[..n]);
-        self.run = self.run.behind(k);
+        self.run.advance(k);
         k
     }
 
@@ -98,7 +95,7 @@ impl<'a> RunReader<'a> {
     {
         let n = self.run.len().min(m);
         let k = self.run.good(n, self.limit);
-        self.run = self.run.behind(k);
+        self.run.advance(k);
         k
     }
 }

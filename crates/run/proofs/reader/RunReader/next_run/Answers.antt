@@ -10,7 +10,7 @@ shorter d rest n k e h l = omega (arith, simp (length-take, length-drop) at (ap 
 
 pub returns-in-Some-Repeated : goal.returns-in-Some-Repeated
 returns-in-Some-Repeated c =
-    let s = c.args.self in
+    let s = c.args.self.now in
     let d : List ℕ = s.bytes.now in
     let h : ℕ = c.in-Some.header.number in
     let n : ℕ = c.in-Some.header.more in
@@ -19,13 +19,13 @@ returns-in-Some-Repeated c =
     let small = rw c.in-Some.is at c.in_ok-header.ensures.small in
     let start = rw c.in-Some-Repeated.field-0-is at (rw c.in-Some-Repeated.is at c.in_ok-read_start.ensures) in (
       run_done s (nil_from_length (left_of s.run) (omega (arith, c.len.ensures)))
-          ∙ (repeated_next s.width.bits s.limit h n d rest head refl c.in-Some-Repeated.count c.in-Some-Repeated.value start ∙ sym c.repeated.ensures.is),
-      shorter d rest n (length c.repeated.result.bytes.now) refl small.2 c.repeated.ensures.on,
+          ∙ (repeated_next s.width.bits s.limit h n d rest head refl c.in-Some-Repeated.count c.in-Some-Repeated.value start ∙ sym c.start_repeated.ensures.is),
+      shorter d rest n (length c.start_repeated.new.self.bytes.now) refl small.2 c.start_repeated.ensures.on,
     )
 
 pub returns-in-Some-Packed : goal.returns-in-Some-Packed
 returns-in-Some-Packed c =
-    let s = c.args.self in
+    let s = c.args.self.now in
     let d : List ℕ = s.bytes.now in
     let h : ℕ = c.in-Some.header.number in
     let n : ℕ = c.in-Some.header.more in
@@ -34,6 +34,6 @@ returns-in-Some-Packed c =
     let small = rw c.in-Some.is at c.in_ok-header.ensures.small in
     let start = rw c.in-Some-Packed.field-0-is at (rw c.in-Some-Packed.is at c.in_ok-read_start.ensures) in (
       run_done s (nil_from_length (left_of s.run) (omega (arith, c.len.ensures)))
-          ∙ (packed_next s.width.bits s.limit h n d rest head refl c.in-Some-Packed.groups start ∙ sym c.packed.ensures.is),
-      shorter d rest n (length c.packed.result.bytes.now) refl small.2 c.packed.ensures.on,
+          ∙ (packed_next s.width.bits s.limit h n d rest head refl c.in-Some-Packed.groups start ∙ sym c.start_packed.ensures.is),
+      shorter d rest n (length c.start_packed.new.self.bytes.now) refl small.2 c.start_packed.ensures.on,
     )

@@ -4,8 +4,8 @@ use Rattle.run.proofs.Within.{good_there}
 use Rattle.run.proofs.Calls.{step_over, step_most, step_stops}
 use Rattle.run.proofs.reader.RunReader.pass.Goals as goal
 
-pub behind-self-requires : goal.behind-self-requires
-behind-self-requires c =
+pub advance-requires : goal.advance-requires
+advance-requires c =
     let s = c.args.self.now in
     good_there s.limit c.min-n.result c.good-k.result (left_of s.run) c.good-k.ensures
 
@@ -14,7 +14,7 @@ returns c =
     let s = c.args.self.now in
     let least : c.min-n.result ≡ min (length (left_of s.run)) c.args.m = c.min-n.ensures ∙ ap (λ j. min j c.args.m) c.len.ensures in
     record {
-      steps = step_over s c.behind-self.result c.min-n.result c.args.m c.good-k.result c.good-k.ensures c.behind-self.ensures least;
-      most = step_most s c.behind-self.result c.min-n.result c.args.m c.good-k.result c.good-k.ensures c.behind-self.ensures least;
-      stops = step_stops s c.behind-self.result c.min-n.result c.args.m c.good-k.result c.good-k.ensures c.behind-self.ensures least;
+      steps = step_over s c.advance.new.self c.min-n.result c.args.m c.good-k.result c.good-k.ensures c.advance.ensures least;
+      most = step_most s c.advance.new.self c.min-n.result c.args.m c.good-k.result c.good-k.ensures c.advance.ensures least;
+      stops = step_stops s c.advance.new.self c.min-n.result c.args.m c.good-k.result c.good-k.ensures c.advance.ensures least;
     }

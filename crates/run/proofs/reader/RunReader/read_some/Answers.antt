@@ -30,5 +30,5 @@ runs-preserved g c =
     let o = c.args.out.now in
     let n : ℕ = c.take-k.result in
     let a = got_step g.T.Number.from s o c.runs.out c.take-k.new.out c.runs.k c.runs.self n c.take-k.new.self c.runs.invariant c.take-k.ensures.steps c.take-k.ensures.most c.take-k.ensures.written in
-    let h = rw c.in-Ok-Some.field-0-is at c.in-Ok-Some.ensures in
-    got_to g.T.Number.from s (to_come c.take-k.new.self) (to_come c.in-Ok-Some.next) o _ (c.runs.k + n) a h.0
+    let h = rw c.in-Ok-true.field-0-test at c.in-Ok-true.ensures in
+    got_to g.T.Number.from s (to_come c.take-k.new.self) (to_come c.next_run.new.self) o _ (c.runs.k + n) a h.0

@@ -15,8 +15,8 @@ runs-preserved c =
     let s = to_come c.args.self.now in
     let n : ℕ = c.pass-passed.result in
     let a = passes_step s c.runs.passed c.runs.self n c.pass-passed.new.self c.runs.invariant.passes c.pass-passed.ensures.steps in
-    let h = rw c.in-Ok-Some.field-0-is at c.in-Ok-Some.ensures in
+    let h = rw c.in-Ok-true.field-0-test at c.in-Ok-true.ensures in
     record {
       most = omega (arith, c.runs.invariant.most, c.pass-passed.ensures.most);
-      passes = passes_to s (to_come c.pass-passed.new.self) (to_come c.in-Ok-Some.next) (c.runs.passed + n) a h.0;
+      passes = passes_to s (to_come c.pass-passed.new.self) (to_come c.next_run.new.self) (c.runs.passed + n) a h.0;
     }

@@ -17,8 +17,8 @@ whole o ys q n k h l e =
     ∙ (append_assoc ys (drop k (take n o)) (drop n o)
     ∙ ap (λ p. ys ++ p) (sym (drop-append-le k (take n o) (drop n o) (omega (arith, length-take-le n o h))) ∙ ap (drop k) (take-append-drop n o)))
 
-pub behind-self-requires : goal.behind-self-requires
-behind-self-requires g c =
+pub advance-requires : goal.advance-requires
+advance-requires g c =
     let s = c.args.self.now in
     let k = lent c.args.out.now c.min-n.result c.len.result c.unpack_good-k.result s.limit (left_of s.run) c.min-n.ensures c.unpack_good-k.ensures.is in
     good_there s.limit c.min-n.result c.unpack_good-k.result (left_of s.run) k
@@ -31,9 +31,9 @@ returns g c =
     let least : n ≡ min (length (left_of s.run)) (length o) = c.min-n.ensures ∙ ap (λ j. min j (length o)) c.len.ensures in
     let k = lent o n c.len.result c.unpack_good-k.result s.limit (left_of s.run) c.min-n.ensures c.unpack_good-k.ensures.is in
     record {
-      steps = step_over s c.behind-self.result n (length o) c.unpack_good-k.result k c.behind-self.ensures least;
-      most = step_most s c.behind-self.result n (length o) c.unpack_good-k.result k c.behind-self.ensures least;
-      stops = step_stops s c.behind-self.result n (length o) c.unpack_good-k.result k c.behind-self.ensures least;
+      steps = step_over s c.advance.new.self n (length o) c.unpack_good-k.result k c.advance.ensures least;
+      most = step_most s c.advance.new.self n (length o) c.unpack_good-k.result k c.advance.ensures least;
+      stops = step_stops s c.advance.new.self n (length o) c.unpack_good-k.result k c.advance.ensures least;
       written = whole o (map g.T.Number.from (take c.unpack_good-k.result (left_of s.run))) c.unpack_good-k.new.out n c.unpack_good-k.result (omega arith)
           (good_few s.limit n c.unpack_good-k.result (left_of s.run) k) c.unpack_good-k.ensures.written;
     }

@@ -1,28 +1,28 @@
 use Rattle.std.proofs.Common.{ℕ, length, arith}
 use Rattle.std.proofs.lemmas.List.{length-take, length-drop}
 use Rattle.run.proofs.Loads.{fits_whole, fits_cut, cut_few, next_whole, next_cut}
-use Rattle.run.proofs.reader.RunReader.packed.Goals.{then-size-rest, else-size-rest}
-use Rattle.run.proofs.reader.RunReader.packed.Goals as goal
+use Rattle.run.proofs.reader.RunReader.start_packed.Goals.{then-size-rest, else-size-rest}
+use Rattle.run.proofs.reader.RunReader.start_packed.Goals as goal
 
-pub invariant_of-part : goal.invariant_of-part
-invariant_of-part c =
+pub invariant_of-self : goal.invariant_of-self
+invariant_of-self c =
     let b : ℕ = c.bits-width.result in
     let n : ℕ = c.if-size-rest.count in
     let rest = c.args.rest.now in
     elim c.if-size-rest.branch [
       | then-size-rest w ↦ record {
         short = omega (arith, w.count-is);
-        whole = fits_whole c.args.self.width.bits b c.args.groups n rest c.bits-width.ensures.is w.count-is w.if-size-rest.true;
+        whole = fits_whole c.args.self.now.width.bits b c.args.groups n rest c.bits-width.ensures.is w.count-is w.if-size-rest.true;
       }
       | else-size-rest w ↦ record {
         short = omega (arith, w.count-is, cut_few b c.args.groups (length rest) w.if-size-rest.false);
-        whole = fits_cut c.args.self.width.bits b n rest c.bits-width.ensures.is w.count-is;
+        whole = fits_cut c.args.self.now.width.bits b n rest c.bits-width.ensures.is w.count-is;
       }
     ]
 
 pub returns : goal.returns
 returns c =
-    let s = c.args.self in
+    let s = c.args.self.now in
     let b : ℕ = c.bits-width.result in
     let n : ℕ = c.if-size-rest.count in
     let rest = c.args.rest.now in

@@ -77,9 +77,13 @@ fn number(bytes: &[u8]) -> u32
     requires { length bytes.now ≤ 4 }
     ensures { result ≡ le bytes.now }
 {
-    let mut four = [0; 4];
-    four[..bytes.len()].copy_from_slice(bytes);
-    u32::from_le_bytes(four)
+    match bytes {
+        [a] => u32::from(*a),
+        [a, b] => u32::from_le_bytes([*a, *b, 0, 0]),
+        [a, b, c] => u32::from_le_bytes([*a, *b, *c, 0]),
+        [a, b, c, d] => u32::from_le_bytes([*a, *b, *c, *d]),
+        _ => 0,
+    }
 }
 
 /// What header 1 announces, a packed run of no groups.

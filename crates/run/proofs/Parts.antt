@@ -35,7 +35,7 @@ good_copies limit v n h =
 
 pub bad_copies : (limit v n : ℕ) → limit ≤ v → 0 ≡ good limit (replicate n v)
 bad_copies limit v zero h = refl
-bad_copies limit v (suc n) h = sym (ap (λ b. cond b (suc (good limit (replicate n v))) 0) (le-ltb v limit h))
+bad_copies limit v (suc n) h = sym (ap (λ b. cond b (1 + good limit (replicate n v)) 0) (le-ltb v limit h))
 
 below_top : (w n x i : ℕ) → i < n → get_or (from_below w n x) i 0 < 2 ^ w
 below_top w zero x i h = absurd (omega arith)

@@ -15,7 +15,7 @@ pub within_good : (limit : ℕ) (xs : List ℕ) (t : Stream) → good limit xs �
 within_good limit [] t h = refl
 within_good limit (x ∷ xs) t h = go (ltb x limit) (within_good limit xs t) h
   where
-    go : (b : Bool) → (good limit xs ≡ length xs → within limit xs t ≡ onto xs t) → cond b (suc (good limit xs)) 0 ≡ suc (length xs)
+    go : (b : Bool) → (good limit xs ≡ length xs → within limit xs t ≡ onto xs t) → cond b (1 + good limit xs) 0 ≡ suc (length xs)
         → cond b (record { numbers = x ∷ (within limit xs t).numbers; end = (within limit xs t).end }) (ended fault) ≡ onto (x ∷ xs) t
     go true i e = let j = i (omega arith) in ap (λ s. onto (x ∷ []) s) j
     go false i e = absurd (omega arith)
@@ -25,9 +25,12 @@ pub within_bad : (limit : ℕ) (xs : List ℕ) (t : Stream) → good limit xs < 
 within_bad limit [] t h = absurd (omega arith)
 within_bad limit (x ∷ xs) t h = go (ltb x limit) (within_bad limit xs t) h
   where
-    go : (b : Bool) → (good limit xs < length xs → within limit xs t ≡ onto (take (good limit xs) xs) (ended fault)) → cond b (suc (good limit xs)) 0 < suc (length xs)
-        → cond b (record { numbers = x ∷ (within limit xs t).numbers; end = (within limit xs t).end }) (ended fault) ≡ onto (take (cond b (suc (good limit xs)) 0) (x ∷ xs)) (ended fault)
-    go true i e = let j = i (omega arith) in ap (λ s. onto (x ∷ []) s) j
+    go : (b : Bool) → (good limit xs < length xs → within limit xs t ≡ onto (take (good limit xs) xs) (ended fault)) → cond b (1 + good limit xs) 0 < suc (length xs)
+        → cond b (record { numbers = x ∷ (within limit xs t).numbers; end = (within limit xs t).end }) (ended fault) ≡ onto (take (cond b (1 + good limit xs) 0) (x ∷ xs)) (ended fault)
+    go true i e =
+        let j = i (omega arith) in
+        let n : suc (good limit xs) ≡ 1 + good limit xs = omega arith in
+        ap (λ s. onto (x ∷ []) s) j ∙ ap (λ k. onto (take k (x ∷ xs)) (ended fault)) n
     go false i e = refl
 
 pub within_append : (limit : ℕ) (xs ys : List ℕ) (t : Stream) → within limit (xs ++ ys) t ≡ within limit xs (within limit ys t)

@@ -1,5 +1,6 @@
 -- Parts of packed numbers, and numbers held against a limit.
-use Rattle.std.specs.Prelude.{ℕ, zero, suc, ◌+◌, ◌*◌, ◌^◌, cond, List, [], ◌∷◌, drop, nat_lt}
+use Rattle.std.specs.Prelude.{ℕ, zero, suc, ◌+◌, ◌*◌, ◌^◌, List, [], ◌∷◌, drop, nat_lt}
+use Rattle.std.specs.List.{prefix_len}
 use Rattle.stream.specs.Packing.{low_first, high_first}
 use Rattle.run.specs.declared.order.Order.{Order}
 use Rattle.run.specs.declared.order.Order.TheVariants.{LowFirst, HighFirst}
@@ -19,8 +20,7 @@ part HighFirst w a n bs = highs w a n bs
 
 -- how many numbers stand in front of the first that is not below the limit
 abbrev pub good : ℕ → List ℕ → ℕ
-good limit [] = 0
-good limit (x ∷ xs) = cond (nat_lt x limit) (suc (good limit xs)) 0
+good limit xs = prefix_len (λ x. nat_lt x limit) xs
 
 -- the number in the first `n` bytes, highest byte first, with zeros behind the end
 abbrev pub front : ℕ → List ℕ → ℕ

@@ -1,6 +1,7 @@
 -- Laws of the numbers of a run.
-use Rattle.std.proofs.Common.{◌≡◌, ℕ, zero, suc, ◌+◌, ◌-◌, ◌*◌, ◌/◌, ◌^◌, ◌<◌, ◌≤◌, true, cond, List, ◌++◌, length, get_or, replicate, sym, refl, ap, ◌∙◌, mul-le-mul_right, mod-lt, arith, pow_pos, le-ltb, leb-true}
-use Rattle.std.proofs.lemmas.List.{length-replicate, replicate-append-replicate, get_or-replicate, get_or-drop}
+use Rattle.std.proofs.Common.{◌≡◌, ℕ, zero, suc, ◌+◌, ◌-◌, ◌*◌, ◌/◌, ◌^◌, ◌<◌, ◌≤◌, true, cond, List, ◌++◌, map, length, get_or, take, drop, replicate, sym, refl, ap, ◌∙◌, mul-le-mul_right, mod-lt, arith, pow_pos, le-ltb, leb-true}
+use borrow.Rule.Slice.PartMut.{put_mid}
+use Rattle.std.proofs.lemmas.List.{append_assoc, drop-append-le, drop-drop, length-drop, length-take, take-append-drop, take_at, length-replicate, replicate-append-replicate, get_or-replicate, get_or-drop}
 use Rattle.stream.specs.Packing.{le, be, from_below, from_above, low_first, high_first}
 use Rattle.run.specs.declared.order.Order.{Order}
 use Rattle.run.specs.declared.order.Order.TheVariants.{LowFirst, HighFirst}
@@ -19,6 +20,22 @@ run_length (Packed o) w at n bs = part_length o w at n bs
 pub run_split : (r : Run) (w at m n : ℕ) (bs : List ℕ) → of_run r w at (m + n) bs ≡ of_run r w at m bs ++ of_run r w (at + m) n bs
 run_split (Repeated v) w at m n bs = sym (replicate-append-replicate m n v)
 run_split (Packed o) w at m n bs = part_split o w at m n bs
+
+pub run_front : (r : Run) (w at k n : ℕ) (bs : List ℕ) → k ≤ n → take k (of_run r w at n bs) ≡ of_run r w at k bs
+run_front r w at k n bs h =
+    let e : n ≡ k + (n - k) = omega arith in
+    ap (λ j. take k (of_run r w at j bs)) e
+    ∙ (ap (take k) (run_split r w at k (n - k) bs) ∙ take_at (of_run r w at k bs) (of_run r w (at + k) (n - k) bs) k (run_length r w at k bs))
+
+-- numbers are written in front of the `d` places lent, which lie behind the first `at`
+pub wrote_front : {X : Type 0} (f : ℕ → X) (at k d : ℕ) (o u : List X) (xs ys : List ℕ) → at + d ≤ length o → k ≤ d
+    → u ≡ map f xs ++ drop k (take d (drop at o)) → xs ≡ ys → put_mid at d o u ≡ take at o ++ (map f ys ++ drop (at + k) o)
+wrote_front f at k d o u xs ys h l e g =
+    let v = drop at o in
+    let m : k ≤ length (take d v) = omega (arith, length-take d v, length-drop at o) in
+    let t : drop k (take d v) ++ drop d v ≡ drop (at + k) o = sym (drop-append-le k (take d v) (drop d v) m) ∙ (ap (drop k) (take-append-drop d v) ∙ drop-drop k at o) in
+    ap (λ z. take at o ++ (z ++ drop d v)) (e ∙ ap (λ z. map f z ++ drop k (take d v)) g)
+    ∙ ap (λ z. take at o ++ z) (append_assoc (map f ys) (drop k (take d v)) (drop d v) ∙ ap (λ z. map f ys ++ z) t)
 
 -- the bytes of a packed run hold the next numbers
 pub part_whole : (o : Order) (w at n left : ℕ) (bs : List ℕ) → n ≤ left → whole_in (Packed o) w (at + left) bs ≡ true → (at + n) * w ≤ 8 * length bs

@@ -10,6 +10,7 @@ mod loaded;
 mod low;
 mod open;
 pub mod order;
+mod packed;
 mod part;
 mod read;
 pub mod reader;

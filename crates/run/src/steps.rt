@@ -1,14 +1,14 @@
 //! Steps within a run, and on to the next.
 
 ghost use Rattle.std.specs.Prelude.{◌≡◌, ◌+◌, ◌-◌, ◌<◌, ◌≤◌, true, false, map, length, nat_lt};
-ghost use Rattle.run.specs.Packed.{good};
+ghost use Rattle.run.specs.Packed.{numbers, good};
 ghost use Rattle.run.specs.declared.kind.Run.TheVariants.{Packed};
 ghost use Rattle.run.specs.Coming.{to_come, behind, next_of};
 ghost use Rattle.run.specs.Reading.{onto, Reads, unless};
 
 use crate::kind::Run;
 use crate::order::Order;
-use crate::part::{good_part, unpack_good, unpack_part};
+use crate::packed::Part;
 use crate::reader::RunReader;
 use crate::repeated::repeat;
 use element::number::Number;
@@ -32,15 +32,24 @@ impl<'a> RunReader<'a> {
                 if self.limit >= 1 << self.width.bits() {
                     return n;
                 }
-                good_part(
-                    order,
-                    self.packed,
-                    self.at,
-                    self.width.bits(),
-                    n,
-                    self.limit,
-                )
+                self.part(order, n).good(self.limit)
             }
+        }
+    }
+
+    /// The next `n` numbers of a packed run.
+    fn part(self, order: Order, n: usize) -> Part<'a>
+        requires packed { self.run ≡ Packed order }
+        requires there { n ≤ self.left }
+        ensures count { result.count ≡ n }
+        ensures is { numbers result ≡ next_of self.entry n }
+    {
+        Part {
+            order,
+            width: self.width,
+            bytes: self.packed,
+            skip: self.at,
+            count: n,
         }
     }
 
@@ -51,7 +60,7 @@ impl<'a> RunReader<'a> {
     {
         match self.run {
             Run::Repeated(v) => repeat(out, v),
-            Run::Packed(order) => unpack_part(order, self.packed, self.at, self.width.bits(), out),
+            Run::Packed(order) => self.part(order, out.len()).unpack(out),
         }
     }
 
@@ -128,16 +137,9 @@ impl<'a> RunReader<'a> {
         ensures bytes { self.new.bytes.now ≡ self.old.bytes.now }
     {
         let n = self.left.min(out.len() - at);
-        let k = unpack_good(
-            order,
-            self.packed,
-            self.at,
-            self.width.bits(),
-            n,
-            self.limit,
-            out,
-            at,
-        );
+        let k = self
+            .part(order, n)
+            .unpack_good(self.limit, &mut out[at..at + n]);
         *self = self.moved(k);
         (k, k < n)
     }

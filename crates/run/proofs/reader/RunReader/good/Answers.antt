@@ -1,8 +1,8 @@
-use Rattle.std.proofs.Common.{◌^◌, ◌≤◌, sym, ap, ◌∙◌, arith, ltb-false, ltb-true}
+use Rattle.std.proofs.Common.{◌^◌, ◌≤◌, sym, ap, ◌∙◌, arith, ltb-true}
 use Rattle.std.proofs.lemmas.Nat.{one_shl}
 use Rattle.run.specs.Packed.{good}
 use Rattle.run.specs.Runs.{of_run}
-use Rattle.run.proofs.Parts.{good_copies, bad_copies, good_width, part_room}
+use Rattle.run.proofs.Parts.{good_copies, good_width}
 use Rattle.run.proofs.reader.RunReader.good.Goals as goal
 
 pub returns-then-self-bits : goal.returns-then-self-bits
@@ -14,23 +14,8 @@ returns-then-self-bits c =
     good_width c.in-Packed.order s.width.bits s.at c.args.n s.limit s.packed.now u
     ∙ ap (λ r. good s.limit (of_run r s.width.bits s.at c.args.n s.packed.now)) (sym c.in-Packed.is)
 
-pub good_part-requires : goal.good_part-requires
-good_part-requires c =
-    let s = c.args.self in
-    record {
-      narrow = c.bits-in-Packed.ensures.small;
-      short = omega arith;
-      whole = part_room s.run c.in-Packed.order s.width.bits c.bits-in-Packed.result s.at c.args.n s.left s.packed.now c.in-Packed.is c.bits-in-Packed.ensures.is (omega arith) s.whole;
-    }
-
 pub returns-then-below : goal.returns-then-below
 returns-then-below c =
     let s = c.args.self in
     good_copies s.limit c.in-Repeated.v c.args.n (ltb-true c.in-Repeated.v s.limit (sym c.below.ensures ∙ c.if-below.true))
-    ∙ ap (λ r. good s.limit (of_run r s.width.bits s.at c.args.n s.packed.now)) (sym c.in-Repeated.is)
-
-pub returns-else-below : goal.returns-else-below
-returns-else-below c =
-    let s = c.args.self in
-    bad_copies s.limit c.in-Repeated.v c.args.n (ltb-false c.in-Repeated.v s.limit (sym c.below.ensures ∙ c.if-below.false))
     ∙ ap (λ r. good s.limit (of_run r s.width.bits s.at c.args.n s.packed.now)) (sym c.in-Repeated.is)

@@ -8,10 +8,9 @@ pub(crate) fn word(bytes: &[u8], j: usize) -> u64
     requires { j + 8 ≤ length bytes.now }
     ensures { result ≡ le (take 8 (drop j bytes.now)) }
 {
-    match bytes[j..].first_chunk::<8>() {
-        Some(eight) => u64::from_le_bytes(*eight),
-        None => unreachable(),
-    }
+    let mut eight = [0; 8];
+    eight.copy_from_slice(&bytes[j..j + 8]);
+    u64::from_le_bytes(eight)
 }
 
 /// The eight bytes from `j` on, with zeros behind the end.

@@ -1,11 +1,13 @@
 -- Laws of numbers packed from the highest bit down.
-use Rattle.std.proofs.Common.{◌≡◌, ℕ, zero, suc, ◌+◌, ◌-◌, ◌*◌, ◌/◌, ◌%◌, ◌^◌, ◌<◌, ◌≤◌, List, [], ◌∷◌, ◌++◌, map, length, get_or, take, drop, set, sym, refl, ap, ◌∙◌, mul-le-mul_right, mul_assoc, suc-mul, mul_comm, add-mul, one-mul, pow-suc, mul-zero, zero-mul, mul-add, arith, pow-add}
+use Rattle.std.proofs.Common.{◌≡◌, ℕ, zero, suc, ◌+◌, ◌-◌, ◌*◌, ◌/◌, ◌%◌, ◌^◌, ◌<◌, ◌≤◌, List, [], ◌∷◌, ◌++◌, length, get_or, drop, sym, refl, ap, ◌∙◌, mul-le-mul_right, mul_assoc, suc-mul, mul_comm, add-mul, one-mul, pow-suc, mul-zero, zero-mul, mul-add, arith, pow-add}
 use lib.Bits.{bit_and}
 use Rattle.std.proofs.lemmas.Nat.{shr-shr, shl-shr, shr_high}
-use Rattle.std.proofs.lemmas.List.{drop_all, drop-append-le, length-drop, get_or-drop}
+use Rattle.std.proofs.lemmas.List.{length-drop, get_or-drop}
 use Rattle.stream.specs.Packing.{be, from_above, high_first}
 use Rattle.run.specs.Packed.{highs, front}
-use Rattle.run.proofs.Laws.{Bytes, bytes_more, bits_field, masked, put_more}
+use Rattle.std.specs.Int.{from_be_bytes, w64}
+use native.Mathlib.Nat.{mod-one}
+use Rattle.run.proofs.Laws.{Bytes, bytes_more, bits_field, masked}
 
 pub bytes_pow : (n : ℕ) → 256 ^ n ≡ 2 ^ (8 * n)
 bytes_pow zero = refl
@@ -128,21 +130,35 @@ pub above_length : (w n t x : ℕ) → length (from_above w n t x) ≡ n
 above_length w zero t x = refl
 above_length w (suc n) t x = ap suc (above_length w n (t - w) x)
 
-pub highs_none : (w a : ℕ) (bs : List ℕ) → highs w a 0 bs ≡ []
-highs_none w a bs = drop_all a (high_first w (a + 0) bs) (omega (arith, above_length w (a + 0) (8 * length bs) (be bs)))
+above_at : (w n t x i : ℕ) → i < n → get_or (from_above w n t x) i 0 ≡ x / 2 ^ (t - (i + 1) * w) % 2 ^ w
+above_at w zero t x i h = absurd (omega arith)
+above_at w (suc n) t x zero h = let e : t - w ≡ t - (0 + 1) * w = omega (arith, one-mul w) in ap (λ k. x / 2 ^ k % 2 ^ w) e
+above_at w (suc n) t x (suc i) h =
+    let q : suc i + 1 ≡ suc (i + 1) = omega arith in
+    let e : t - w - (i + 1) * w ≡ t - (suc i + 1) * w = omega (arith, ap (λ j. j * w) q, suc-mul (i + 1) w) in
+    above_at w n (t - w) x i (omega arith) ∙ ap (λ k. x / 2 ^ k % 2 ^ w) e
 
-pub highs_more : (w a n : ℕ) (bs : List ℕ) → highs w a (n + 1) bs ≡ highs w a n bs ++ (be bs / 2 ^ (8 * length bs - (a + n + 1) * w) % 2 ^ w) ∷ []
-highs_more w a n bs =
-    let e : a + (n + 1) ≡ suc (a + n) = omega arith in
-    let f : suc (a + n) ≡ a + n + 1 = omega arith in
-    let l : a ≤ length (high_first w (a + n) bs) = omega (arith, above_length w (a + n) (8 * length bs) (be bs)) in
-    ap (λ k. drop a (high_first w k bs)) e
-    ∙ (ap (drop a) (above_more w (a + n) (8 * length bs) (be bs))
-    ∙ (drop-append-le a (high_first w (a + n) bs) _ l
-    ∙ ap (λ k. highs w a n bs ++ (be bs / 2 ^ (8 * length bs - k * w) % 2 ^ w) ∷ []) f))
+pub highs_at : (w a n i : ℕ) (bs : List ℕ) → i < n → get_or (highs w a n bs) i 0 ≡ be bs / 2 ^ (8 * length bs - ((a + i) * w + w)) % 2 ^ w
+highs_at w a n i bs h =
+    let e : (a + i + 1) * w ≡ (a + i) * w + w = omega (arith, add-mul (a + i) 1 w, one-mul w) in
+    get_or-drop a (high_first w (a + n) bs) i 0
+    ∙ (above_at w (a + n) (8 * length bs) (be bs) (a + i) (omega arith) ∙ ap (λ k. be bs / 2 ^ (8 * length bs - k) % 2 ^ w) e)
 
-pub put_high : {X : Type 0} (f : ℕ → X) (out : List X) (w a i v : ℕ) (y : X) (bs : List ℕ)
-    → i < length out → take i out ≡ map f (highs w a i bs) → y ≡ f v → v ≡ be bs / 2 ^ (8 * length bs - (a + i + 1) * w) % 2 ^ w
-    → take (i + 1) (set out i y) ≡ map f (highs w a (i + 1) bs)
-put_high f out w a i v y bs h e g q =
-    put_more f out i v y (highs w a i bs) (highs w a (i + 1) bs) h e g (highs_more w a i bs ∙ ap (λ x. highs w a i bs ++ x ∷ []) (sym q))
+-- what eight bytes hold that stand at `j`, highest first, with zeros behind the end
+be_read : (bs win : List ℕ) (j x : ℕ) → ((k : ℕ) → k < 8 → get_or win k 0 ≡ get_or bs (j + k) 0) → x ≡ from_be_bytes w64 win → x ≡ front 8 (drop j bs)
+be_read bs win j x h e =
+    let z : j + 0 ≡ j = omega arith in
+    let h0 : get_or win 0 0 ≡ get_or bs j 0 = h 0 (omega arith) ∙ ap (λ i. get_or bs i 0) z in
+    omega (arith, front_eight_at j bs, h 1 (omega arith), h 2 (omega arith), h 3 (omega arith), h 4 (omega arith), h 5 (omega arith), h 6 (omega arith), h 7 (omega arith))
+
+-- a number is read off such bytes
+pub high_read : (bs win : List ℕ) (at b w x : ℕ) → Bytes bs → b ≡ w → b ≤ 32 → at + w ≤ 8 * length bs
+    → ((k : ℕ) → k < 8 → get_or win k 0 ≡ get_or bs (at / 8 + k) 0) → x ≡ from_be_bytes w64 win
+    → bit_and (x / 2 ^ (64 - at % 8 - b)) ((1 * 2 ^ b) % 18446744073709551616 - 1) ≡ be bs / 2 ^ (8 * length bs - (at + w)) % 2 ^ w
+high_read bs win at b w x h q l k g e =
+    high_field bs (at / 8) (at % 8) b (at + b) x h (omega arith) (omega arith) (omega arith) (omega arith) (be_read bs win (at / 8) x g e)
+    ∙ ap (λ v. be bs / 2 ^ (8 * length bs - (at + v)) % 2 ^ v) q
+
+-- a number of no bits
+pub high_none : (x w : ℕ) → 0 ≡ w → 0 ≡ x % 2 ^ w
+high_none x w e = sym (ap (λ k. x % 2 ^ k) (sym e) ∙ mod-one x)

@@ -1,9 +1,13 @@
 -- Laws of packed numbers.
-use Rattle.std.proofs.Common.{◌≡◌, ℕ, zero, suc, ◌+◌, ◌-◌, ◌*◌, ◌/◌, ◌%◌, ◌^◌, ◌<◌, ◌≤◌, List, [], ◌∷◌, ◌++◌, map, length, get_or, take, drop, set, sym, refl, ap, ◌∙◌, mul-le-mul_right, mul_assoc, suc-mul, mul_comm, add-mul, zero-mul, div-mul-le_self, div-one, arith, pow_pos, pow-add}
+use Rattle.std.proofs.Common.{◌≡◌, ℕ, zero, suc, ◌+◌, ◌-◌, ◌*◌, ◌/◌, ◌%◌, ◌^◌, ◌<◌, ◌≤◌, min, ◌⊎◌, List, [], ◌∷◌, ◌++◌, map, length, get_or, take, drop, set, sym, refl, ap, ◌∙◌, mul-le-mul_right, mul_assoc, suc-mul, mul_comm, zero-mul, div-one, arith, pow_pos, pow-add, inl, inr}
 use native.Mathlib.Nat.{add-mul-mod_self_left, add-mul-div_left, div-eq_of_lt}
 use lib.Bits.{bit_and}
 use Rattle.std.proofs.lemmas.Nat.{shr-shr, and_mask, one_shl}
-use Rattle.std.proofs.lemmas.List.{drop_all, drop-append-le, take_all, take_more_set, map_push, get_or-drop}
+use Rattle.std.proofs.lemmas.List.{append-nil, append_assoc, drop_all, take_all, take-append-drop, take_more_set, map_more, map-append, get_or-drop, drop-drop}
+use Rattle.std.proofs.lemmas.Slice.{take-put_mid}
+use Rattle.std.proofs.Math.Seq.{take-add}
+use Rattle.std.specs.Int.{from_le_bytes, w64}
+use borrow.Rule.Slice.PartMut.{put_mid, post_of}
 use Rattle.stream.specs.Packing.{le, from_below, low_first}
 use Rattle.run.specs.Packed.{lows}
 
@@ -99,22 +103,6 @@ pub below_length : (w n x : ℕ) → length (from_below w n x) ≡ n
 below_length w zero x = refl
 below_length w (suc n) x = ap suc (below_length w n (x / 2 ^ w))
 
-pub lows_none : (w a : ℕ) (bs : List ℕ) → lows w a 0 bs ≡ []
-lows_none w a bs = drop_all a (low_first w (a + 0) bs) (omega (arith, below_length w (a + 0) (le bs)))
-
-pub lows_more : (w a n : ℕ) (bs : List ℕ) → lows w a (n + 1) bs ≡ lows w a n bs ++ (le bs / 2 ^ ((a + n) * w) % 2 ^ w) ∷ []
-lows_more w a n bs =
-    let e : a + (n + 1) ≡ suc (a + n) = omega arith in
-    let l : a ≤ length (low_first w (a + n) bs) = omega (arith, below_length w (a + n) (le bs)) in
-    ap (λ k. drop a (low_first w k bs)) e
-    ∙ (ap (drop a) (below_more w (a + n) (le bs)) ∙ drop-append-le a (low_first w (a + n) bs) _ l)
-
--- one element more is written
-pub put_more : {X : Type 0} (f : ℕ → X) (out : List X) (i v : ℕ) (y : X) (zs zs' : List ℕ)
-    → i < length out → take i out ≡ map f zs → y ≡ f v → zs' ≡ zs ++ v ∷ [] → take (i + 1) (set out i y) ≡ map f zs'
-put_more f out i v y zs zs' h e g z =
-    take_more_set out i y h ∙ (ap (λ t. t ++ y ∷ []) e ∙ (ap (λ x. map f zs ++ x ∷ []) g ∙ (sym (map_push f zs v) ∙ ap (map f) (sym z))))
-
 pub masked : (x w : ℕ) → w < 64 → bit_and x ((1 * 2 ^ w) % 18446744073709551616 - 1) ≡ x % 2 ^ w
 masked x w h = ap (λ u. bit_and x (u - 1)) (one_shl w 64 h) ∙ and_mask x w
 
@@ -125,40 +113,108 @@ low_field bs j s w p x h l k e q =
     masked (x / 2 ^ s) w k
     ∙ (ap (λ y. y / 2 ^ s % 2 ^ w) q ∙ (le_window 8 j s w bs h l ∙ ap (λ n. le bs / 2 ^ n % 2 ^ w) e))
 
--- the window of a group's number lies in the bytes
-pub group_in : (st g n k w l : ℕ) → g < n → k < 8 → 0 < w → n ≤ (l - st - 8) / w → st + 8 ≤ l → st + g * w + k * w / 8 + 8 ≤ l
-group_in st g n k w l a b c d e =
-    let a1 : suc g ≤ n = omega arith in
-    let b1 : k ≤ 7 = omega arith in
-    let p = mul-le-mul_right w a1 in
-    let q = mul-le-mul_right w d in
-    let r = div-mul-le_self (l - st - 8) w in
-    let s = suc-mul g w in
-    let t = mul-le-mul_right w b1 in
-    omega arith
+-- one number of a list more is written
+pub put_at : {X : Type 0} (f : ℕ → X) (out : List X) (xs : List ℕ) (i v : ℕ) (y : X)
+    → i < length out → i < length xs → take i out ≡ map f (take i xs) → y ≡ f v → v ≡ get_or xs i 0 → take (i + 1) (set out i y) ≡ map f (take (i + 1) xs)
+put_at f out xs i v y h l e g q =
+    take_more_set out i y h ∙ (ap (λ t. t ++ y ∷ []) e ∙ (ap (λ x. map f (take i xs) ++ x ∷ []) (g ∙ ap f q) ∙ sym (map_more f xs i 0 l)))
 
--- the bit where a group's number starts
-pub group_place : (skip first g k w : ℕ) → (skip + first) % 8 ≡ 0
-    → 8 * ((skip + first) / 8 * w + g * w + k * w / 8) + k * w % 8 ≡ (skip + (first + 8 * g + k)) * w
-group_place skip first g k w h =
-    let q : ℕ = (skip + first) / 8 in
-    let e : skip + (first + 8 * g + k) ≡ 8 * q + 8 * g + k = omega arith in
-    let a = add-mul (8 * q + 8 * g) k w in
-    let b = add-mul (8 * q) (8 * g) w in
-    let c = mul_assoc 8 q w in
-    let d = mul_assoc 8 g w in
-    let f = ap (λ x. x * w) e in
-    omega arith
+-- all of them are written
+pub put_all : {X : Type 0} (f : ℕ → X) (out : List X) (xs : List ℕ) (i : ℕ) → length out ≤ i → length xs ≤ i → take i out ≡ map f (take i xs) → out ≡ map f xs
+put_all f out xs i h l e = sym (take_all i out h) ∙ (e ∙ ap (map f) (take_all i xs l))
 
--- the same for the numbers packed from the lowest bit up
-pub put_low : {X : Type 0} (f : ℕ → X) (out : List X) (w a i n v : ℕ) (y : X) (bs : List ℕ)
-    → n ≡ i + 1 → i < length out → take i out ≡ map f (lows w a i bs) → y ≡ f v → v ≡ le bs / 2 ^ ((a + i) * w) % 2 ^ w
-    → take n (set out i y) ≡ map f (lows w a n bs)
-put_low f out w a i n v y bs p h e g q =
-    ap (λ m. take m (set out i y)) p
-    ∙ (put_more f out i v y (lows w a i bs) (lows w a (i + 1) bs) h e g (lows_more w a i bs ∙ ap (λ x. lows w a i bs ++ x ∷ []) (sym q))
-    ∙ ap (λ m. map f (lows w a m bs)) (sym p))
+-- the numbers from the place `m` on, those in front of it, and the one at it
+below_drop : (w m n x : ℕ) → drop m (from_below w (m + n) x) ≡ from_below w n (x / 2 ^ (m * w))
+below_drop w zero n x =
+    let e : 0 + n ≡ n = omega arith in
+    ap (λ k. from_below w k x) e ∙ ap (from_below w n) (sym (div-one x) ∙ ap (λ k. x / 2 ^ k) (sym (zero-mul w)))
+below_drop w (suc m) n x =
+    let e : suc m + n ≡ suc (m + n) = omega arith in
+    let q : w + m * w ≡ suc m * w = omega (arith, suc-mul m w) in
+    ap (λ k. drop (suc m) (from_below w k x)) e
+    ∙ (below_drop w m n (x / 2 ^ w) ∙ ap (from_below w n) (shr-shr x w (m * w) ∙ ap (λ k. x / 2 ^ k) q))
 
--- all elements are written
-pub all_low : {X : Type 0} (f : ℕ → X) (xs : List X) (w a n m : ℕ) (bs : List ℕ) → length xs ≤ n → n ≡ m → take n xs ≡ map f (lows w a n bs) → xs ≡ map f (lows w a m bs)
-all_low f xs w a n m bs h e t = sym (take_all n xs h) ∙ (t ∙ ap (λ k. map f (lows w a k bs)) e)
+below_take : (w m n x : ℕ) → take m (from_below w (m + n) x) ≡ from_below w m x
+below_take w zero n x = refl
+below_take w (suc m) n x =
+    let e : suc m + n ≡ suc (m + n) = omega arith in
+    ap (λ k. take (suc m) (from_below w k x)) e ∙ ap (λ t. x % 2 ^ w ∷ t) (below_take w m n (x / 2 ^ w))
+
+pub below_at : (w n x i : ℕ) → i < n → get_or (from_below w n x) i 0 ≡ x / 2 ^ (i * w) % 2 ^ w
+below_at w zero x i h = absurd (omega arith)
+below_at w (suc n) x zero h = ap (λ y. y % 2 ^ w) (sym (div-one x) ∙ ap (λ e. x / 2 ^ e) (sym (zero-mul w)))
+below_at w (suc n) x (suc i) h =
+    let q : w + i * w ≡ suc i * w = omega (arith, suc-mul i w) in
+    below_at w n (x / 2 ^ w) i (omega arith) ∙ ap (λ y. y % 2 ^ w) (shr-shr x w (i * w) ∙ ap (λ k. x / 2 ^ k) q)
+
+-- what eight bytes hold that stand at `j`, with zeros behind the end
+pub le_read : (bs win : List ℕ) (j x : ℕ) → ((k : ℕ) → k < 8 → get_or win k 0 ≡ get_or bs (j + k) 0) → x ≡ from_le_bytes w64 win → x ≡ le (take 8 (drop j bs))
+le_read bs win j x h e =
+    let z : j + 0 ≡ j = omega arith in
+    let h0 : get_or win 0 0 ≡ get_or bs j 0 = h 0 (omega arith) ∙ ap (λ i. get_or bs i 0) z in
+    omega (arith, le_eight_at j bs, h 1 (omega arith), h 2 (omega arith), h 3 (omega arith), h 4 (omega arith), h 5 (omega arith), h 6 (omega arith), h 7 (omega arith))
+
+-- a number is read off such bytes
+pub low_read : (bs win : List ℕ) (at b w x : ℕ) → Bytes bs → b ≡ w → b ≤ 32 → ((k : ℕ) → k < 8 → get_or win k 0 ≡ get_or bs (at / 8 + k) 0) → x ≡ from_le_bytes w64 win
+    → bit_and (x / 2 ^ (at % 8)) ((1 * 2 ^ b) % 18446744073709551616 - 1) ≡ le bs / 2 ^ at % 2 ^ w
+low_read bs win at b w x h q l g e =
+    low_field bs (at / 8) (at % 8) b at x h (omega arith) (omega arith) (omega arith) (le_read bs win (at / 8) x g e) ∙ ap (λ v. le bs / 2 ^ at % 2 ^ v) q
+
+pub lows_at : (w a n i : ℕ) (bs : List ℕ) → i < n → get_or (lows w a n bs) i 0 ≡ le bs / 2 ^ ((a + i) * w) % 2 ^ w
+lows_at w a n i bs h = get_or-drop a (low_first w (a + n) bs) i 0 ∙ below_at w (a + n) (le bs) (a + i) (omega arith)
+
+-- the bit of a group's number in the word that it is read off
+pub group_bit : (k w from : ℕ) → k < 8 → w ≤ 32 → ((from ≡ 0) × (w ≤ 8)) ⊎ (from ≡ k * w / 8) → (8 * from + (k * w - 8 * from) ≡ k * w) × (k * w - 8 * from + w ≤ 64)
+group_bit k w from h l (inl e) = let k1 : k ≤ 7 = omega arith in let p = mul-le-mul_right w k1 in (omega (arith, e.0, e.1), omega (arith, e.0, e.1))
+group_bit k w from h l (inr e) = (omega arith, omega arith)
+
+-- a group's numbers behind those of the groups in front, and those of several groups
+pub group_more : (w g : ℕ) (bs : List ℕ) → Bytes bs → low_first w (8 * (g + 1)) bs ≡ low_first w (8 * g) bs ++ low_first w 8 (drop (g * w) bs)
+group_more w g bs h =
+    let x : ℕ = le bs in
+    let e : 8 * (g + 1) ≡ 8 * g + 8 = omega arith in
+    let p : 8 * (g * w) ≡ 8 * g * w = sym (mul_assoc 8 g w) in
+    let xs : List ℕ = from_below w (8 * g + 8) x in
+    ap (λ j. from_below w j x) e
+    ∙ (sym (take-append-drop (8 * g) xs)
+    ∙ (ap (λ t. t ++ drop (8 * g) xs) (below_take w (8 * g) 8 x)
+    ∙ ap (λ t. from_below w (8 * g) x ++ t) (below_drop w (8 * g) 8 x ∙ ap (from_below w 8) (ap (λ j. x / 2 ^ j) (sym p) ∙ le_drop (g * w) bs h))))
+
+pub groups_are : (w a n m x : ℕ) (bs : List ℕ) → a % 8 ≡ 0 → n ≤ m → x ≡ le bs / 2 ^ (8 * (a / 8 * w)) → from_below w n x ≡ take n (lows w a m bs)
+groups_are w a n m x bs z l e =
+    let f : a ≡ 8 * (a / 8) = omega arith in
+    let p : 8 * (a / 8 * w) ≡ a * w = sym (mul_assoc 8 (a / 8) w) ∙ ap (λ j. j * w) (sym f) in
+    let k : ℕ = m - n in
+    let s : m ≡ n + k = omega arith in
+    ap (from_below w n) (e ∙ ap (λ j. le bs / 2 ^ j) p)
+    ∙ sym (ap (take n) (below_drop w a m (le bs)) ∙ (ap (λ j. take n (from_below w j (le bs / 2 ^ (a * w)))) s ∙ below_take w n k (le bs / 2 ^ (a * w))))
+
+pub groups_lie : (w b a h m n : ℕ) (bs rest : List ℕ) → b ≡ w → h ≡ min ((8 - a % 8) % 8) m → n ≤ m - h → le rest ≡ le bs / 2 ^ (8 * ((a + h) / 8 * b))
+    → low_first b n rest ≡ take n (drop h (lows w a m bs))
+groups_lie w b a h m zero bs rest q e l g = refl
+groups_lie w b a h m (suc n) bs rest q e l g =
+    let z : (a + h) % 8 ≡ 0 = omega arith in
+    let s : a + h + (m - h) ≡ a + m = omega arith in
+    ap (λ v. from_below v (suc n) (le rest)) q
+    ∙ (groups_are w (a + h) (suc n) (m - h) (le rest) bs z l (g ∙ ap (λ v. le bs / 2 ^ (8 * ((a + h) / 8 * v))) q)
+    ∙ sym (ap (take (suc n)) (drop-drop h a (low_first w (a + m) bs) ∙ ap (λ j. drop (a + h) (low_first w j bs)) (sym s))))
+
+-- more numbers are written behind those in front
+pub put_on : {X : Type 0} (f : ℕ → X) (out new : List X) (xs ys zs : List ℕ) (a k n : ℕ) → n ≡ a + length new → a ≤ length out
+    → take a out ≡ map f xs → new ≡ map f ys → zs ≡ xs ++ ys → take n (put_mid a k out new) ≡ map f zs
+put_on f out new xs ys zs a k n m l e q z =
+    take-put_mid a k out new n m l ∙ (ap (λ t. t ++ new) e ∙ (ap (λ t. map f xs ++ t) q ∙ (sym (map-append f xs ys) ∙ ap (map f) (sym z))))
+
+-- three parts of a list are written
+pub put_three : {X : Type 0} (f : ℕ → X) (p q r : List X) (xs : List ℕ) (h n k : ℕ) → length q ≤ n + k
+    → p ≡ map f (take h xs) → take n q ≡ map f (take n (drop h xs)) → r ≡ map f (drop (h + n) xs) → p ++ put_mid n k q r ≡ map f xs
+put_three f p q r xs h n k l e g i =
+    let z : post_of n k q ≡ [] = ap (drop k) refl ∙ (drop-drop k n q ∙ drop_all (n + k) q l) in
+    ap (λ t. p ++ (take n q ++ (r ++ t))) z
+    ∙ (ap (λ t. p ++ (take n q ++ t)) (append-nil r)
+    ∙ (sym (append_assoc p (take n q) r)
+    ∙ (ap (λ t. t ++ take n q ++ r) e
+    ∙ (ap (λ t. map f (take h xs) ++ t ++ r) g
+    ∙ (ap (λ t. t ++ r) (sym (map-append f (take h xs) (take n (drop h xs))) ∙ ap (map f) (sym (take-add h n xs)))
+    ∙ (ap (λ t. map f (take (h + n) xs) ++ t) i
+    ∙ (sym (map-append f (take (h + n) xs) (drop (h + n) xs)) ∙ ap (map f) (take-append-drop (h + n) xs))))))))

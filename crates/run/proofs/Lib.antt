@@ -2,7 +2,6 @@ pub mod Goods
 pub mod Highs
 pub mod Laws
 pub mod PackedParts
-pub mod Words
 pub mod Calls
 pub mod Loads
 pub mod Opens

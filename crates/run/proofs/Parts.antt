@@ -1,30 +1,12 @@
 -- Laws of the numbers of a run.
-use Rattle.std.proofs.Common.{◌≡◌, ℕ, zero, suc, ◌+◌, ◌-◌, ◌*◌, ◌/◌, ◌^◌, ◌<◌, ◌≤◌, cond, List, length, get_or, take, drop, replicate, sym, refl, ap, ◌∙◌, mod-lt, arith, pow_pos, le-ltb}
-use Rattle.std.proofs.lemmas.List.{length-replicate, get_or-replicate, get_or-drop, take_at, drop_at, take-replicate}
+use Rattle.std.proofs.Common.{◌≡◌, ℕ, zero, suc, ◌+◌, ◌-◌, ◌*◌, ◌/◌, ◌^◌, ◌<◌, ◌≤◌, cond, List, length, get_or, take, replicate, sym, refl, ap, ◌∙◌, mod-lt, arith, pow_pos, le-ltb}
+use Rattle.std.proofs.lemmas.List.{length-replicate, get_or-replicate, get_or-drop, take-replicate}
 use Rattle.stream.specs.Packing.{le, be, from_below, from_above, low_first, high_first}
 use Rattle.run.specs.declared.order.Order.{Order}
 use Rattle.run.specs.declared.order.Order.TheVariants.{LowFirst, HighFirst}
-use Rattle.run.specs.Packed.{part, numbers, good}
-use Rattle.run.proofs.PackedParts.{part_length, part_split}
+use Rattle.run.specs.Packed.{part, good}
+use Rattle.run.proofs.PackedParts.{part_length}
 use Rattle.run.proofs.Goods.{good_all}
-use Rattle.run.specs.declared.packed.Part.{Part}
-
--- the first numbers of a part, and those behind them
-pub part_front : (o : Order) (w a n c : ℕ) (bs : List ℕ) → n ≤ c → part o w a n bs ≡ take n (part o w a c bs)
-part_front o w a n c bs h =
-    let s : n + (c - n) ≡ c = omega arith in
-    sym (ap (λ j. take n (part o w a j bs)) (sym s)
-    ∙ (ap (take n) (part_split o w a n (c - n) bs) ∙ take_at (part o w a n bs) (part o w (a + n) (c - n) bs) n (part_length o w a n bs)))
-
-pub part_behind : (o : Order) (w a n c : ℕ) (bs : List ℕ) → n ≤ c → part o w (a + n) (c - n) bs ≡ drop n (part o w a c bs)
-part_behind o w a n c bs h =
-    let s : n + (c - n) ≡ c = omega arith in
-    sym (ap (λ j. drop n (part o w a j bs)) (sym s)
-    ∙ (ap (drop n) (part_split o w a n (c - n) bs) ∙ drop_at (part o w a n bs) (part o w (a + n) (c - n) bs) n (part_length o w a n bs)))
-
--- as many numbers as the part counts
-pub numbers_length : (p : Part) → length (numbers p) ≡ p.count
-numbers_length p = part_length p.order p.width.bits p.skip p.count p.bytes.now
 
 -- copies of a number are good, or none of them is
 pub good_copies : (limit v n : ℕ) → v < limit → n ≡ good limit (replicate n v)
@@ -37,7 +19,7 @@ copies_good limit v n c h l = good_copies limit v n h ∙ ap (good limit) (sym (
 
 pub bad_copies : (limit v n : ℕ) → limit ≤ v → 0 ≡ good limit (replicate n v)
 bad_copies limit v zero h = refl
-bad_copies limit v (suc n) h = sym (ap (λ b. cond b (suc (good limit (replicate n v))) 0) (le-ltb v limit h))
+bad_copies limit v (suc n) h = sym (ap (λ b. cond b (1 + good limit (replicate n v)) 0) (le-ltb v limit h))
 
 below_top : (w n x i : ℕ) → i < n → get_or (from_below w n x) i 0 < 2 ^ w
 below_top w zero x i h = absurd (omega arith)

@@ -1,5 +1,5 @@
 -- Laws of numbers held against a limit.
-use Rattle.std.proofs.Common.{◌≡◌, ℕ, zero, suc, ◌<◌, ◌≤◌, min, ◌⊎◌, Bool, true, false, cond, ltb, List, [], ◌∷◌, ◌++◌, length, take, drop, sym, refl, ap, ◌∙◌, inl, inr, arith}
+use Rattle.std.proofs.Common.{◌≡◌, ℕ, zero, suc, ◌+◌, ◌<◌, ◌≤◌, min, ◌⊎◌, Bool, true, false, cond, ltb, List, [], ◌∷◌, ◌++◌, length, take, drop, sym, refl, ap, ◌∙◌, inl, inr, arith}
 use Rattle.std.proofs.lemmas.List.{drop_all, length-take, take-append-drop}
 use Rattle.std.proofs.lemmas.Bool.{cases_lt}
 use Rattle.stream.specs.Streams.{Stream, ended, fault, within}
@@ -12,7 +12,7 @@ pub within_good : (limit : ℕ) (xs : List ℕ) (t : Stream) → good limit xs �
 within_good limit [] t h = refl
 within_good limit (x ∷ xs) t h = go (ltb x limit) (within_good limit xs t) h
   where
-    go : (b : Bool) → (good limit xs ≡ length xs → within limit xs t ≡ onto xs t) → cond b (suc (good limit xs)) 0 ≡ suc (length xs)
+    go : (b : Bool) → (good limit xs ≡ length xs → within limit xs t ≡ onto xs t) → cond b (1 + good limit xs) 0 ≡ suc (length xs)
         → cond b (record { numbers = x ∷ (within limit xs t).numbers; end = (within limit xs t).end }) (ended fault) ≡ onto (x ∷ xs) t
     go true i e = let j = i (omega arith) in ap (λ s. onto (x ∷ []) s) j
     go false i e = absurd (omega arith)
@@ -22,9 +22,12 @@ pub within_bad : (limit : ℕ) (xs : List ℕ) (t : Stream) → good limit xs < 
 within_bad limit [] t h = absurd (omega arith)
 within_bad limit (x ∷ xs) t h = go (ltb x limit) (within_bad limit xs t) h
   where
-    go : (b : Bool) → (good limit xs < length xs → within limit xs t ≡ onto (take (good limit xs) xs) (ended fault)) → cond b (suc (good limit xs)) 0 < suc (length xs)
-        → cond b (record { numbers = x ∷ (within limit xs t).numbers; end = (within limit xs t).end }) (ended fault) ≡ onto (take (cond b (suc (good limit xs)) 0) (x ∷ xs)) (ended fault)
-    go true i e = let j = i (omega arith) in ap (λ s. onto (x ∷ []) s) j
+    go : (b : Bool) → (good limit xs < length xs → within limit xs t ≡ onto (take (good limit xs) xs) (ended fault)) → cond b (1 + good limit xs) 0 < suc (length xs)
+        → cond b (record { numbers = x ∷ (within limit xs t).numbers; end = (within limit xs t).end }) (ended fault) ≡ onto (take (cond b (1 + good limit xs) 0) (x ∷ xs)) (ended fault)
+    go true i e =
+        let j = i (omega arith) in
+        let n : suc (good limit xs) ≡ 1 + good limit xs = omega arith in
+        ap (λ s. onto (x ∷ []) s) j ∙ ap (λ k. onto (take k (x ∷ xs)) (ended fault)) n
     go false i e = refl
 
 pub within_append : (limit : ℕ) (xs ys : List ℕ) (t : Stream) → within limit (xs ++ ys) t ≡ within limit xs (within limit ys t)
@@ -38,7 +41,7 @@ within_over limit zero xs t h = refl
 within_over limit (suc k) [] t h = absurd (omega arith)
 within_over limit (suc k) (x ∷ xs) t h = go (ltb x limit) (within_over limit k xs t) h
   where
-    go : (b : Bool) → (k ≤ good limit xs → within limit xs t ≡ onto (take k xs) (within limit (drop k xs) t)) → suc k ≤ cond b (suc (good limit xs)) 0
+    go : (b : Bool) → (k ≤ good limit xs → within limit xs t ≡ onto (take k xs) (within limit (drop k xs) t)) → suc k ≤ cond b (1 + good limit xs) 0
         → cond b (record { numbers = x ∷ (within limit xs t).numbers; end = (within limit xs t).end }) (ended fault) ≡ onto (x ∷ take k xs) (within limit (drop k xs) t)
     go true i e = let j = i (omega arith) in ap (λ s. onto (x ∷ []) s) j
     go false i e = absurd (omega arith)
@@ -48,9 +51,9 @@ pub within_stops : (limit : ℕ) (xs : List ℕ) (t : Stream) → good limit xs 
 within_stops limit [] t h = absurd (omega arith)
 within_stops limit (x ∷ xs) t h = go (ltb x limit) refl (within_stops limit xs t) h
   where
-    go : (b : Bool) → ltb x limit ≡ b → (good limit xs < length xs → within limit (drop (good limit xs) xs) t ≡ ended fault) → cond b (suc (good limit xs)) 0 < suc (length xs)
-        → within limit (drop (cond b (suc (good limit xs)) 0) (x ∷ xs)) t ≡ ended fault
-    go true q i e = i (omega arith)
+    go : (b : Bool) → ltb x limit ≡ b → (good limit xs < length xs → within limit (drop (good limit xs) xs) t ≡ ended fault) → cond b (1 + good limit xs) 0 < suc (length xs)
+        → within limit (drop (cond b (1 + good limit xs) 0) (x ∷ xs)) t ≡ ended fault
+    go true q i e = let n : 1 + good limit xs ≡ suc (good limit xs) = omega arith in ap (λ k. within limit (drop k (x ∷ xs)) t) n ∙ i (omega arith)
     go false q i e = ap (λ b. cond b (record { numbers = x ∷ (within limit xs t).numbers; end = (within limit xs t).end }) (ended fault)) q
 
 -- The next numbers, of which `n` are looked at: `k` of them are good.

@@ -1,8 +1,10 @@
 -- Parts of packed numbers, and numbers held against a limit.
-use Rattle.std.specs.Prelude.{ℕ, zero, suc, ◌+◌, ◌*◌, ◌^◌, cond, List, [], ◌∷◌, drop, nat_lt}
+use Rattle.std.specs.Prelude.{ℕ, zero, suc, ◌+◌, ◌*◌, ◌^◌, List, [], ◌∷◌, take, drop, nat_lt}
+use Rattle.std.specs.List.{prefix_len}
 use Rattle.stream.specs.Packing.{low_first, high_first}
 use Rattle.run.specs.declared.packed.Part.{Part}
 use Rattle.run.specs.declared.order.Order.{Order}
+use Rattle.run.specs.declared.packed.Part.{Part}
 use Rattle.run.specs.declared.order.Order.TheVariants.{LowFirst, HighFirst}
 
 -- the `n` numbers behind the first `a` of those packed from the lowest bit up
@@ -24,8 +26,11 @@ numbers p = part p.order p.width.bits p.skip p.count p.bytes.now
 
 -- how many numbers stand in front of the first that is not below the limit
 abbrev pub good : ℕ → List ℕ → ℕ
-good limit [] = 0
-good limit (x ∷ xs) = cond (nat_lt x limit) (suc (good limit xs)) 0
+good limit xs = prefix_len (λ x. nat_lt x limit) xs
+
+-- those numbers
+abbrev pub all_good : ℕ → List ℕ → List ℕ
+all_good limit xs = take (good limit xs) xs
 
 -- the number in the first `n` bytes, highest byte first, with zeros behind the end
 abbrev pub front : ℕ → List ℕ → ℕ

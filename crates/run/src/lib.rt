@@ -7,7 +7,6 @@ pub mod kind;
 mod limit;
 mod load;
 mod low;
-mod numbers;
 mod open;
 pub mod order;
 pub mod packed;

@@ -1,157 +1,121 @@
 //! Numbers packed from the lowest bit up.
 
-ghost use Rattle.std.specs.Prelude.{◌≡◌, ◌+◌, ◌*◌, ◌/◌, ◌%◌, ◌^◌, ◌<◌, ◌≤◌, map, length, take};
-ghost use Rattle.run.specs.Packed.{lows};
+ghost use Rattle.std.specs.Prelude.{◌≡◌, ◌+◌, ◌*◌, ◌/◌, ◌%◌, ◌^◌, ◌<◌, ◌≤◌, map, length, take, drop};
+ghost use Rattle.stream.specs.Packing.{le, low_first};
+ghost use Rattle.run.specs.Packed.{numbers};
+ghost use Rattle.run.specs.declared.order.Order.TheVariants.{LowFirst};
 
-use crate::word::{low_number, word};
+use crate::packed::Part;
+use crate::word::{window, word};
 use element::number::Number;
+use stream::width::Width;
 
-/// Goes on from `first` to `last` elements of `out`, one at a time.
-fn one_by_one<T: Number>(
-    bytes: &[u8],
-    skip: usize,
-    width: u32,
-    out: &mut [T],
-    first: usize,
-    last: usize,
-)
-    requires narrow { width ≤ 32 }
-    requires short { skip + last < 2 ^ 33 }
-    requires order { first ≤ last }
-    requires within { last ≤ length out.old }
-    requires so_far { take first out.old ≡ map T.Number.from (lows width skip first bytes.now) }
-    ensures { take last out.new ≡ map T.Number.from (lows width skip last bytes.now) }
+/// The number that starts at the bit `at`.
+pub(crate) fn low_bits(bytes: &[u8], at: usize, width: Width) -> u32
+    requires { at + width.bits ≤ 8 * length bytes.now }
+    ensures { result ≡ le bytes.now / 2 ^ at % 2 ^ width.bits }
 {
-    for i in first..last {
-        out[i] = T::from_u32(low_number(bytes, skip + i, width));
+    let x = u64::from_le_bytes(window(bytes, at / 8)) >> (at % 8);
+    (x & ((1 << width.bits()) - 1)) as u32
+}
+
+/// Writes a group of eight numbers; the bytes begin where it does.
+fn group<T: Number, const W: usize>(bytes: &[u8], out: &mut [T])
+    requires narrow { W ≤ 32 }
+    requires there { W + 8 ≤ length bytes.now }
+    requires places { length out.old ≡ 8 }
+    ensures { out.new ≡ map T.Number.from (low_first W 8 bytes.now) }
+{
+    let mask = (1u64 << W) - 1;
+    for (k, x) in out.iter_mut().enumerate() {
+        // One word holds the group at a width of at most 8.
+        let from = if W <= 8 { 0 } else { k * W / 8 };
+        let bits = word(bytes, from) >> (k * W - 8 * from);
+        *x = T::from_u32((bits & mask) as u32);
     }
 }
 
-/// Goes on from `first` elements of `out` by whole groups of eight numbers, as far as there are eight bytes behind the group; tells how many elements are then written.
-fn by_groups<T: Number, const W: usize>(
-    bytes: &[u8],
-    skip: usize,
-    width: u32,
-    out: &mut [T],
-    first: usize,
-) -> usize
-    requires width_is { width ≡ W }
+/// Writes whole groups of numbers, as far as there are eight bytes behind a group, and tells how many numbers; the bytes begin where they do.
+fn by_groups<T: Number, const W: usize>(bytes: &[u8], out: &mut [T]) -> usize
     requires some_bits { 0 < W }
     requires narrow { W ≤ 32 }
-    requires short { skip + length out.old < 2 ^ 33 }
-    requires within { first ≤ length out.old }
-    requires whole_groups { (skip + first) % 8 ≡ 0 }
-    requires so_far { take first out.old ≡ map T.Number.from (lows width skip first bytes.now) }
     ensures most { result ≤ length out.old }
-    ensures is { take result out.new ≡ map T.Number.from (lows width skip result bytes.now) }
+    ensures is { take result out.new ≡ map T.Number.from (low_first W result bytes.now) }
 {
-    let start = (skip + first) / 8 * W;
-    if bytes.len() < start + 8 {
-        return first;
+    if bytes.len() < 8 {
+        return 0;
     }
-    let groups = ((out.len() - first) / 8).min((bytes.len() - start - 8) / W);
-    let mask = (1u64 << W) - 1;
+    let groups = (out.len() / 8).min((bytes.len() - 8) / W);
     for g in 0..groups {
-        for k in 0..8usize {
-            let x = word(bytes, start + g * W + k * W / 8) >> (k * W % 8);
-            out[first + 8 * g + k] = T::from_u32((x & mask) as u32);
-        }
+        group::<T, W>(&bytes[g * W..], &mut out[8 * g..8 * g + 8]);
     }
-    first + 8 * groups
-}
-
-/// `by_groups` at a width of at most 8: one word holds a group.
-fn by_words<T: Number, const W: usize>(
-    bytes: &[u8],
-    skip: usize,
-    width: u32,
-    out: &mut [T],
-    first: usize,
-) -> usize
-    requires width_is { width ≡ W }
-    requires some_bits { 0 < W }
-    requires narrow { W ≤ 8 }
-    requires short { skip + length out.old < 2 ^ 33 }
-    requires within { first ≤ length out.old }
-    requires whole_groups { (skip + first) % 8 ≡ 0 }
-    requires so_far { take first out.old ≡ map T.Number.from (lows width skip first bytes.now) }
-    ensures most { result ≤ length out.old }
-    ensures is { take result out.new ≡ map T.Number.from (lows width skip result bytes.now) }
-{
-    let start = (skip + first) / 8 * W;
-    if bytes.len() < start + 8 {
-        return first;
-    }
-    let groups = ((out.len() - first) / 8).min((bytes.len() - start - 8) / W);
-    let mask = (1u64 << W) - 1;
-    for g in 0..groups {
-        let x = word(bytes, start + g * W);
-        for k in 0..8usize {
-            out[first + 8 * g + k] = T::from_u32(((x >> (k * W)) & mask) as u32);
-        }
-    }
-    first + 8 * groups
-}
-
-/// The numbers behind the first `skip`, as many as `out` has places; past the bytes' end all bits are 0.
-pub(crate) fn unpack<T: Number>(bytes: &[u8], skip: usize, width: u32, out: &mut [T])
-    requires narrow { width ≤ 32 }
-    requires short { skip + length out.old < 2 ^ 33 }
-    ensures { out.new ≡ map T.Number.from (lows width skip (length out.old) bytes.now) }
-{
-    let head = ((8 - skip % 8) % 8).min(out.len());
-    one_by_one(bytes, skip, width, out, 0, head);
-    let written = if head < out.len() {
-        groups(bytes, skip, width, out, head)
-    } else {
-        head
-    };
-    one_by_one(bytes, skip, width, out, written, out.len());
+    8 * groups
 }
 
 /// `by_groups` at the width.
-fn groups<T: Number>(bytes: &[u8], skip: usize, width: u32, out: &mut [T], first: usize) -> usize
-    requires narrow { width ≤ 32 }
-    requires short { skip + length out.old < 2 ^ 33 }
-    requires within { first ≤ length out.old }
-    requires whole_groups { (skip + first) % 8 ≡ 0 }
-    requires so_far { take first out.old ≡ map T.Number.from (lows width skip first bytes.now) }
+// Kept: 32 arms. Each is a loop made for one width; a table would hold pointers to functions, and calls of those are not inlined.
+fn groups<T: Number>(bytes: &[u8], width: u32, out: &mut [T]) -> usize
     ensures most { result ≤ length out.old }
-    ensures is { take result out.new ≡ map T.Number.from (lows width skip result bytes.now) }
+    ensures is { take result out.new ≡ map T.Number.from (low_first width result bytes.now) }
 {
     match width {
-        1 => by_words::<T, 1>(bytes, skip, width, out, first),
-        2 => by_words::<T, 2>(bytes, skip, width, out, first),
-        3 => by_words::<T, 3>(bytes, skip, width, out, first),
-        4 => by_words::<T, 4>(bytes, skip, width, out, first),
-        5 => by_words::<T, 5>(bytes, skip, width, out, first),
-        6 => by_words::<T, 6>(bytes, skip, width, out, first),
-        7 => by_words::<T, 7>(bytes, skip, width, out, first),
-        8 => by_words::<T, 8>(bytes, skip, width, out, first),
-        9 => by_groups::<T, 9>(bytes, skip, width, out, first),
-        10 => by_groups::<T, 10>(bytes, skip, width, out, first),
-        11 => by_groups::<T, 11>(bytes, skip, width, out, first),
-        12 => by_groups::<T, 12>(bytes, skip, width, out, first),
-        13 => by_groups::<T, 13>(bytes, skip, width, out, first),
-        14 => by_groups::<T, 14>(bytes, skip, width, out, first),
-        15 => by_groups::<T, 15>(bytes, skip, width, out, first),
-        16 => by_groups::<T, 16>(bytes, skip, width, out, first),
-        17 => by_groups::<T, 17>(bytes, skip, width, out, first),
-        18 => by_groups::<T, 18>(bytes, skip, width, out, first),
-        19 => by_groups::<T, 19>(bytes, skip, width, out, first),
-        20 => by_groups::<T, 20>(bytes, skip, width, out, first),
-        21 => by_groups::<T, 21>(bytes, skip, width, out, first),
-        22 => by_groups::<T, 22>(bytes, skip, width, out, first),
-        23 => by_groups::<T, 23>(bytes, skip, width, out, first),
-        24 => by_groups::<T, 24>(bytes, skip, width, out, first),
-        25 => by_groups::<T, 25>(bytes, skip, width, out, first),
-        26 => by_groups::<T, 26>(bytes, skip, width, out, first),
-        27 => by_groups::<T, 27>(bytes, skip, width, out, first),
-        28 => by_groups::<T, 28>(bytes, skip, width, out, first),
-        29 => by_groups::<T, 29>(bytes, skip, width, out, first),
-        30 => by_groups::<T, 30>(bytes, skip, width, out, first),
-        31 => by_groups::<T, 31>(bytes, skip, width, out, first),
-        32 => by_groups::<T, 32>(bytes, skip, width, out, first),
-        _ => first,
+        1 => by_groups::<T, 1>(bytes, out),
+        2 => by_groups::<T, 2>(bytes, out),
+        3 => by_groups::<T, 3>(bytes, out),
+        4 => by_groups::<T, 4>(bytes, out),
+        5 => by_groups::<T, 5>(bytes, out),
+        6 => by_groups::<T, 6>(bytes, out),
+        7 => by_groups::<T, 7>(bytes, out),
+        8 => by_groups::<T, 8>(bytes, out),
+        9 => by_groups::<T, 9>(bytes, out),
+        10 => by_groups::<T, 10>(bytes, out),
+        11 => by_groups::<T, 11>(bytes, out),
+        12 => by_groups::<T, 12>(bytes, out),
+        13 => by_groups::<T, 13>(bytes, out),
+        14 => by_groups::<T, 14>(bytes, out),
+        15 => by_groups::<T, 15>(bytes, out),
+        16 => by_groups::<T, 16>(bytes, out),
+        17 => by_groups::<T, 17>(bytes, out),
+        18 => by_groups::<T, 18>(bytes, out),
+        19 => by_groups::<T, 19>(bytes, out),
+        20 => by_groups::<T, 20>(bytes, out),
+        21 => by_groups::<T, 21>(bytes, out),
+        22 => by_groups::<T, 22>(bytes, out),
+        23 => by_groups::<T, 23>(bytes, out),
+        24 => by_groups::<T, 24>(bytes, out),
+        25 => by_groups::<T, 25>(bytes, out),
+        26 => by_groups::<T, 26>(bytes, out),
+        27 => by_groups::<T, 27>(bytes, out),
+        28 => by_groups::<T, 28>(bytes, out),
+        29 => by_groups::<T, 29>(bytes, out),
+        30 => by_groups::<T, 30>(bytes, out),
+        31 => by_groups::<T, 31>(bytes, out),
+        32 => by_groups::<T, 32>(bytes, out),
+        _ => 0,
+    }
+}
+
+/// The bytes from `j` on: the number in all of them, with the bits in front shifted out.
+fn bytes_from(bytes: &[u8], j: usize) -> &[u8]
+    requires { j ≤ length bytes.now }
+    ensures { le result.now ≡ le bytes.now / 2 ^ (8 * j) }
+{
+    &bytes[j..]
+}
+
+impl<'a> Part<'a> {
+    /// Writes the numbers, packed from the lowest bit up.
+    pub(crate) fn unpack_up<T: Number>(self, out: &mut [T])
+        requires up { self.order ≡ LowFirst }
+        requires places { length out.old ≡ self.count }
+        ensures { out.new ≡ map T.Number.from (numbers self.entry) }
+    {
+        let head = ((8 - self.skip % 8) % 8).min(self.count);
+        let width = self.width.bits();
+        let bytes = bytes_from(self.bytes, (self.skip + head) / 8 * width as usize);
+        let (first, rest) = out.split_at_mut(head);
+        self.front(head).one_by_one(first);
+        let n = groups(bytes, width, rest);
+        self.behind(head + n).one_by_one(&mut rest[n..]);
     }
 }

@@ -1,117 +1,162 @@
 //! Parts of packed numbers, in either order.
 
-ghost use Rattle.std.specs.Prelude.{◌≡◌, ◌+◌, ◌*◌, ◌^◌, ◌<◌, ◌≤◌, ◌++◌, map, length, take, drop};
-ghost use Rattle.run.specs.Packed.{part, good};
+ghost use Rattle.std.specs.Prelude.{◌≡◌, ◌+◌, ◌<◌, ◌≤◌, ◌++◌, true, map, length, take, drop, slice_index};
+ghost use Rattle.run.specs.Packed.{numbers, good, all_good};
 
-use crate::high::unpack_down;
+use crate::high::high_bits;
 use crate::limit::first_at_least;
-use crate::low::unpack;
+use crate::low::low_bits;
 use crate::order::Order;
+use crate::packed::Part;
 use element::number::Number;
 
-/// The numbers behind the first `skip`, as many as `out` has places; they lie whole in the bytes.
-pub(crate) fn unpack_part<T: Number>(
-    order: Order,
-    bytes: &[u8],
-    skip: usize,
-    width: u32,
-    out: &mut [T],
-)
-    requires narrow { width ≤ 32 }
-    requires short { skip + length out.old < 2 ^ 33 }
-    requires whole { (skip + length out.old) * width ≤ 8 * length bytes.now }
-    ensures { out.new ≡ map T.Number.from (part order width skip (length out.old) bytes.now) }
-{
-    match order {
-        Order::LowFirst => unpack(bytes, skip, width, out),
-        Order::HighFirst => unpack_down(bytes, skip, width, out),
-    }
-}
+/// How many numbers are unpacked before they are held against a limit.
+const BLOCK: usize = 256;
 
-/// How many of the numbers behind the first `skip`, as many as `held` has places for, stand in front of the first that is not below the limit.
-fn good_block(
-    order: Order,
-    bytes: &[u8],
-    skip: usize,
-    width: u32,
-    held: &mut [u32],
-    limit: u64,
-) -> usize
-    requires narrow { width ≤ 32 }
-    requires short { skip + length held.old < 2 ^ 33 }
-    requires whole { (skip + length held.old) * width ≤ 8 * length bytes.now }
-    ensures seen { result ≡ good limit (part order width skip (length held.old) bytes.now) }
-    ensures held { held.new ≡ part order width skip (length held.old) bytes.now }
-{
-    unpack_part(order, bytes, skip, width, held);
-    first_at_least(held, limit)
-}
-
-/// How many of the `n` numbers behind the first `skip` stand in front of the first that is not below the limit; the `n` lie whole in the bytes.
-pub(crate) fn good_part(
-    order: Order,
-    bytes: &[u8],
-    skip: usize,
-    width: u32,
-    n: usize,
-    limit: u64,
-) -> usize
-    requires narrow { width ≤ 32 }
-    requires short { skip + n < 2 ^ 33 }
-    requires whole { (skip + n) * width ≤ 8 * length bytes.now }
-    ensures { result ≡ good limit (part order width skip n bytes.now) }
-{
-    let mut held = [0u32; 256];
-    let mut k = 0;
-    while k < n {
-        let m = (n - k).min(256);
-        let seen = good_block(order, bytes, skip + k, width, &mut held[0..m], limit);
-        k += seen;
-        if seen < m {
-            return k;
+impl<'a> Part<'a> {
+    /// The first `n` of the numbers.
+    pub(crate) fn front(self, n: usize) -> Part<'a>
+        requires { n ≤ self.count }
+        ensures order { result.order ≡ self.entry.order }
+        ensures count { result.count ≡ n }
+        ensures numbers { numbers result ≡ take n (numbers self.entry) }
+    {
+        Part {
+            order: self.order,
+            width: self.width,
+            bytes: self.bytes,
+            skip: self.skip,
+            count: n,
         }
     }
-    n
-}
 
-/// Writes the numbers behind the first `at` places.
-fn place<T: Number>(numbers: &[u32], out: &mut [T], at: usize)
-    requires { at + length numbers.now ≤ length out.old }
-    ensures { out.new ≡ take at out.old ++ (map T.Number.from numbers.now ++ drop (at + length numbers.now) out.old) }
-{
-    for i in 0..numbers.len() {
-        out[at + i] = T::from_u32(numbers[i]);
-    }
-}
-
-/// Writes those of the `n` numbers behind the first `skip` that stand in front of the first that is not below the limit, behind the first `at` places, and tells how many; the `n` lie whole in the bytes.
-pub(crate) fn unpack_good<T: Number>(
-    order: Order,
-    bytes: &[u8],
-    skip: usize,
-    width: u32,
-    n: usize,
-    limit: u64,
-    out: &mut [T],
-    at: usize,
-) -> usize
-    requires narrow { width ≤ 32 }
-    requires short { skip + n < 2 ^ 33 }
-    requires whole { (skip + n) * width ≤ 8 * length bytes.now }
-    requires room { at + n ≤ length out.old }
-    ensures is { result ≡ good limit (part order width skip n bytes.now) }
-    ensures written { out.new ≡ take at out.old ++ (map T.Number.from (part order width skip result bytes.now) ++ drop (at + result) out.old) }
-{
-    let mut held = [0u32; 256];
-    let mut k = 0;
-    while k < n {
-        let m = (n - k).min(256);
-        let seen = good_block(order, bytes, skip + k, width, &mut held[0..m], limit);
-        place(&held[0..seen], out, at + k);
-        k += seen;
-        if seen < m {
-            return k;
+    /// The numbers behind the first `n`.
+    pub(crate) fn behind(self, n: usize) -> Part<'a>
+        requires { n ≤ self.count }
+        ensures order { result.order ≡ self.entry.order }
+        ensures skip { result.skip ≡ self.entry.skip + n }
+        ensures count { result.count + n ≡ self.entry.count }
+        ensures numbers { numbers result ≡ drop n (numbers self.entry) }
+    {
+        Part {
+            order: self.order,
+            width: self.width,
+            bytes: self.bytes,
+            skip: self.skip + n,
+            count: self.count - n,
         }
     }
-    n
+
+    /// Passes over the first `n` of the numbers.
+    pub(crate) fn advance(&mut self, n: usize)
+        requires { n ≤ self.old.count }
+        ensures { numbers self.new ≡ drop n (numbers self.old) }
+    {
+        // In this order, so that the numbers lie whole in the bytes at each step.
+        self.count -= n;
+        self.skip += n;
+    }
+
+    /// The number at the place `i`.
+    fn number(self, i: usize) -> u32
+        requires { i < self.count }
+        ensures { result ≡ slice_index (numbers self.entry) i }
+    {
+        let at = (self.skip + i) * self.width.bits() as usize;
+        match self.order {
+            Order::LowFirst => low_bits(self.bytes, at, self.width),
+            Order::HighFirst => high_bits(self.bytes, at, self.width),
+        }
+    }
+
+    /// Writes the numbers, one at a time.
+    pub(crate) fn one_by_one<T: Number>(self, out: &mut [T])
+        requires { length out.old ≡ self.count }
+        ensures { out.new ≡ map T.Number.from (numbers self.entry) }
+    {
+        for (i, x) in out.iter_mut().enumerate() {
+            *x = T::from_u32(self.number(i));
+        }
+    }
+
+    /// Writes the numbers.
+    pub(crate) fn unpack<T: Number>(self, out: &mut [T])
+        requires { length out.old ≡ self.count }
+        ensures { out.new ≡ map T.Number.from (numbers self.entry) }
+    {
+        match self.order {
+            Order::LowFirst => self.unpack_up(out),
+            Order::HighFirst => self.one_by_one(out),
+        }
+    }
+
+    /// Unpacks the first block of the numbers and moves on behind it; tells how many of them are good, in front of the first that is not below the limit. Behind that one nothing is left.
+    fn next_good(&mut self, limit: u64, held: &mut [u32]) -> usize
+        requires some { 0 < self.old.count }
+        requires places { length held.old ≡ 256 }
+        ensures most { result ≤ 256 }
+        ensures smaller { self.new.count < self.old.count }
+        ensures count { good limit (numbers self.old) ≡ result + good limit (numbers self.new) }
+        ensures good { all_good limit (numbers self.old) ≡ take result held.new ++ all_good limit (numbers self.new) }
+    {
+        let n = self.count.min(BLOCK);
+        self.front(n).unpack(&mut held[..n]);
+        let k = first_at_least(&held[..n], limit);
+        *self = if k < n { self.front(0) } else { self.behind(n) };
+        k
+    }
+
+    /// Whether the limit is above every number of the width.
+    fn fits_below(self, limit: u64) -> bool
+        ensures { result ≡ true → good limit (numbers self.entry) ≡ self.entry.count }
+    {
+        limit >= 1 << self.width.bits()
+    }
+
+    /// How many of the numbers stand in front of the first that is not below the limit.
+    pub(crate) fn good(self, limit: u64) -> usize
+        ensures { result ≡ good limit (numbers self.entry) }
+    {
+        if self.fits_below(limit) {
+            return self.count;
+        }
+        let mut held = [0u32; BLOCK];
+        let mut rest = self;
+        let mut k = 0;
+        while rest.count > 0 {
+            k += rest.next_good(limit, &mut held);
+        }
+        k
+    }
+
+    /// Writes the numbers that stand in front of the first that is not below the limit, and tells how many.
+    pub(crate) fn unpack_good<T: Number>(self, limit: u64, out: &mut [T]) -> usize
+        requires { length out.old ≡ self.count }
+        ensures is { result ≡ good limit (numbers self.entry) }
+        ensures written { out.new ≡ map T.Number.from (take result (numbers self.entry)) ++ drop result out.old }
+    {
+        if self.fits_below(limit) {
+            self.unpack(out);
+            return self.count;
+        }
+        let mut held = [0u32; BLOCK];
+        let mut rest = self;
+        let mut k = 0;
+        while rest.count > 0 {
+            let n = rest.next_good(limit, &mut held);
+            place(&held[..n], &mut out[k..k + n]);
+            k += n;
+        }
+        k
+    }
+}
+
+/// Writes the numbers.
+fn place<T: Number>(numbers: &[u32], out: &mut [T])
+    requires { length out.old ≡ length numbers.now }
+    ensures { out.new ≡ map T.Number.from numbers.now }
+{
+    for (i, x) in out.iter_mut().enumerate() {
+        *x = T::from_u32(numbers[i]);
+    }
 }

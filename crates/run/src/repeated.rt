@@ -9,7 +9,7 @@ pub(crate) fn repeat<T: Number>(out: &mut [T], v: u32)
     ensures { out.new ≡ map T.Number.from (replicate (length out.old) v) }
 {
     let x = T::from_u32(v);
-    for i in 0..out.len() {
-        out[i] = x;
+    for y in out.iter_mut() {
+        *y = x;
     }
 }

@@ -19,7 +19,7 @@ fn below(x: u32, limit: u64) -> bool
 
 impl<'a> Run<'a> {
     /// How many numbers are left.
-    #[tactic(auto, using(crate::proofs::Parts::numbers_length))]
+    #[tactic(auto, using(crate::proofs::PackedParts::numbers_length))]
     pub(crate) fn len(self) -> usize
         ensures { result ≡ length (left_of self.entry) }
     {
@@ -30,7 +30,7 @@ impl<'a> Run<'a> {
     }
 
     /// Passes over its next `n` numbers.
-    #[tactic(auto, using(crate::proofs::Parts::numbers_length))]
+    #[tactic(auto, using(crate::proofs::PackedParts::numbers_length))]
     fn advance(&mut self, n: usize)
         requires { n ≤ length (left_of self.old) }
         ensures { left_of self.new ≡ drop n (left_of self.old) }
@@ -42,7 +42,7 @@ impl<'a> Run<'a> {
     }
 
     /// How many of the next `n` numbers stand in front of the first that is not below the limit.
-    #[tactic(auto, using(crate::proofs::Parts::numbers_length))]
+    #[tactic(auto, using(crate::proofs::PackedParts::numbers_length))]
     fn good(self, n: usize, limit: u64) -> usize
         requires { n ≤ length (left_of self) }
         ensures { result ≡ good limit (take n (left_of self.entry)) }
@@ -54,7 +54,7 @@ impl<'a> Run<'a> {
     }
 
     /// Writes those of the next numbers, as many as there are places, that stand in front of the first that is not below the limit; tells how many.
-    #[tactic(auto, using(crate::proofs::Parts::numbers_length))]
+    #[tactic(auto, using(crate::proofs::PackedParts::numbers_length))]
     fn unpack_good<T: Number>(self, limit: u64, out: &mut [T]) -> usize
         requires { length out.old ≤ length (left_of self) }
         ensures is { result ≡ good limit (take (length out.old) (left_of self.entry)) }

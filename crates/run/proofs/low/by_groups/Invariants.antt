@@ -1,9 +1,6 @@
-use Rattle.std.proofs.Common.{◌≡◌, ◌+◌, ◌*◌, map, take}
-use Rattle.run.specs.Packed.{lows}
+use Rattle.std.proofs.Common.{◌≡◌, ◌*◌, map, take}
+use Rattle.stream.specs.Packing.{low_first}
 use Rattle.run.proofs.low.by_groups.Given as goal
 
 abbrev pub invariant-loop-g : goal.invariant-loop-g
-invariant-loop-g g l = take (l.first + 8 * l.g) l.out ≡ map g.T.Number.from (lows l.width l.skip (l.first + 8 * l.g) l.bytes)
-
-abbrev pub invariant-loop-k : goal.invariant-loop-k
-invariant-loop-k g l = take (l.first + 8 * l.g + l.k) l.out ≡ map g.T.Number.from (lows l.width l.skip (l.first + 8 * l.g + l.k) l.bytes)
+invariant-loop-g g l = take (8 * l.g) l.out ≡ map g.T.Number.from (low_first g.row.W (8 * l.g) l.bytes)

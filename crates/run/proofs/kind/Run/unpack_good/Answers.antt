@@ -45,4 +45,4 @@ returns-else-not-below-clause-written g c =
 pub returns-in-Packed-clause-written : goal.returns-in-Packed-clause-written
 returns-in-Packed-clause-written g c =
     front_written g.T.Number.from c.args.out.now c.unpack_good.new.out (left_of c.args.self) _ c.unpack_good.result c.args.limit
-    (c.front.ensures.is ∙ ap (λ r. take (length c.args.out.now) (left_of r)) (sym c.in-Packed.is)) c.unpack_good.ensures.is c.unpack_good.ensures.written
+    (c.front.ensures.numbers ∙ ap (λ r. take (length c.args.out.now) (left_of r)) (sym c.in-Packed.is)) c.unpack_good.ensures.is c.unpack_good.ensures.written

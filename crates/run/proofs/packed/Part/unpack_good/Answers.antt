@@ -1,19 +1,56 @@
-use Rattle.std.proofs.Common.{ℕ, ◌+◌, ◌≤◌, ◌++◌, map, take, drop, ap, ◌∙◌, arith, zero-add}
-use Rattle.run.specs.Packed.{good, part}
+use Rattle.std.proofs.Common.{◌≡◌, ℕ, ◌+◌, ◌-◌, ◌≤◌, List, [], ◌++◌, map, length, take, drop, sym, ap, ◌∙◌, arith}
+use Rattle.std.proofs.lemmas.List.{append-nil, append_assoc, map-append, drop-drop, length-append, length-map, length-take, length-take-le, nil_from_length, take-append-drop}
+use Rattle.std.proofs.lemmas.Slice.{take-put_mid, drop-put_mid}
+use borrow.Rule.Slice.PartMut.{put_mid}
+use Rattle.run.specs.Packed.{numbers, good, all_good}
 use Rattle.run.proofs.Goods.{good_most}
-use Rattle.run.proofs.Parts.{part_front, numbers_length}
+use Rattle.run.proofs.PackedParts.{numbers_length}
 use Rattle.run.proofs.packed.Part.unpack_good.Goals as goal
 
-pub returns-clause-written : goal.returns-clause-written
-returns-clause-written g c =
-    let s = c.args.self in
+pub overflow_add-k : goal.overflow_add-k
+overflow_add-k g c = let s = c.args.self in omega (arith, good_most c.args.limit (numbers s), numbers_length s)
+
+pub slice_bounds-place-end-in-loop-rest : goal.slice_bounds-place-end-in-loop-rest
+slice_bounds-place-end-in-loop-rest g c = let s = c.args.self in omega (arith, good_most c.args.limit (numbers s), numbers_length s)
+
+pub loop-rest-preserved : goal.loop-rest-preserved
+loop-rest-preserved g c =
     let f = g.T.Number.from in
-    let k : ℕ = c.unpack_good.result in
-    let o = c.args.out.now in
-    let w = c.bits.ensures.is in
-    let is = c.unpack_good.ensures.is ∙ ap (λ b. good c.args.limit (part s.order b s.skip s.count s.bytes.now)) w in
-    let m : k ≤ s.count = omega (arith, is, good_most c.args.limit (part s.order s.width.bits s.skip s.count s.bytes.now), numbers_length s) in
-    c.unpack_good.ensures.written
-    ∙ (ap (λ b. map f (part s.order b s.skip k s.bytes.now) ++ drop (0 + k) o) w
-    ∙ (ap (λ xs. map f xs ++ drop (0 + k) o) (part_front s.order s.width.bits s.skip k s.count s.bytes.now m)
-    ∙ ap (λ j. map f (take k (part s.order s.width.bits s.skip s.count s.bytes.now)) ++ drop j o) (zero-add k)))
+    let s = c.args.self in
+    let k : ℕ = c.loop-rest.k in
+    let n : ℕ = c.next_good-n.result in
+    let o = c.loop-rest.out in
+    let p = c.place.new.out in
+    let ys : List ℕ = take n c.next_good-n.new.held in
+    let zs : List ℕ = all_good c.args.limit (numbers c.next_good-n.new.self) in
+    let m : k + n ≤ length o = omega (arith, good_most c.args.limit (numbers s), numbers_length s) in
+    let l : length p ≡ n = ap length c.place.ensures ∙ (length-map ys f ∙ length-take-le n c.next_good-n.new.held (omega arith)) in
+    let q = put_mid k (k + n - k) o p in
+    let t : take (k + n) q ≡ take k o ++ p = take-put_mid k (k + n - k) o p (k + n) (omega arith) (omega arith) in
+    record {
+      held = omega arith;
+      within = omega (arith, ap length t, length-take (k + n) q, length-append (take k o) p, length-take-le k o (omega arith));
+      many = omega arith;
+      written = ap (λ us. us ++ map f zs) t
+          ∙ (append_assoc (take k o) p (map f zs)
+          ∙ (ap (λ us. take k o ++ (us ++ map f zs)) c.place.ensures
+          ∙ (ap (λ us. take k o ++ us) (sym (map-append f ys zs) ∙ ap (map f) (sym c.next_good-n.ensures.good)) ∙ c.loop-rest.invariant.written)));
+      kept = drop-put_mid k _ o p (k + n) (omega arith) (omega arith) (omega arith)
+          ∙ (sym (drop-drop n k o) ∙ (ap (drop n) c.loop-rest.invariant.kept ∙ drop-drop n k c.args.out.now));
+    }
+
+pub returns : goal.returns
+returns g c =
+    let f = g.T.Number.from in
+    let s = c.args.self in
+    let r = c.loop-rest.rest in
+    let k : ℕ = c.loop-rest.k in
+    let o = c.loop-rest.out in
+    let z : numbers r ≡ [] = nil_from_length (numbers r) (omega (arith, numbers_length r)) in
+    let e : k ≡ good c.args.limit (numbers s) = omega (arith, good_most c.args.limit (numbers r), numbers_length r) in
+    record {
+      is = e;
+      written = sym (take-append-drop k o)
+          ∙ (ap (λ us. us ++ drop k o) (sym (append-nil (take k o)) ∙ (ap (λ us. take k o ++ map f (all_good c.args.limit us)) (sym z) ∙ (c.loop-rest.invariant.written ∙ ap (λ j. map f (take j (numbers s))) (sym e))))
+          ∙ ap (λ us. map f (take k (numbers s)) ++ us) c.loop-rest.invariant.kept);
+    }

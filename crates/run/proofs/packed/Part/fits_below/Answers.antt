@@ -1,7 +1,7 @@
 use Rattle.std.proofs.Common.{◌≤◌, ◌^◌, sym, arith, leb-true}
 use Rattle.std.proofs.lemmas.Nat.{one_shl}
 use Rattle.run.proofs.Parts.{good_width}
-use Rattle.run.proofs.packed.Part.all_good.Goals as goal
+use Rattle.run.proofs.packed.Part.fits_below.Goals as goal
 
 pub returns : goal.returns
 returns c e =

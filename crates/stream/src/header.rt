@@ -42,7 +42,14 @@ pub fn read_header(bytes: &[u8]) -> Result<Option<Header>, RunFault>
     ensures is { result ≡ header 10 bytes.now }
     ensures small { Small 10 (length bytes.now) result }
 {
-    header_within(bytes, 10)
+    match bytes {
+        // Most headers are one byte.
+        [b, ..] if *b < 128 => Ok(Some(Header {
+            number: u128::from(*b),
+            more: 0,
+        })),
+        _ => header_within(bytes, 10),
+    }
 }
 
 /// The header at the start of the bytes, of at most `k` bytes.

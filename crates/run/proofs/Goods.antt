@@ -12,7 +12,7 @@ use Rattle.std.proofs.Math.Seq.{take-add}
 use Rattle.run.specs.Packed.{good, all_good}
 
 -- behind good numbers
-pub good_append : (limit : ℕ) (xs ys : List ℕ) → good limit xs ≡ length xs → good limit (xs ++ ys) ≡ length xs + good limit ys
+good_append : (limit : ℕ) (xs ys : List ℕ) → good limit xs ≡ length xs → good limit (xs ++ ys) ≡ length xs + good limit ys
 good_append limit xs ys h = grind (arith, nat_tests, prefix_len-append (λ x. ltb x limit) xs ys)
 
 -- behind a number that is not good nothing counts

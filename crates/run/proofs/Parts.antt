@@ -1,5 +1,5 @@
 -- Laws of the numbers of a run.
-use Rattle.std.proofs.Common.{◌≡◌, ℕ, zero, suc, ◌+◌, ◌-◌, ◌*◌, ◌/◌, ◌^◌, ◌<◌, ◌≤◌, true, cond, List, ◌++◌, map, length, get_or, take, drop, replicate, sym, refl, ap, ◌∙◌, mul-le-mul_right, mod-lt, arith, pow_pos, le-ltb, leb-true}
+use Rattle.std.proofs.Common.{◌≡◌, ℕ, zero, suc, ◌+◌, ◌-◌, ◌*◌, ◌/◌, ◌^◌, ◌<◌, ◌≤◌, List, ◌++◌, map, length, get_or, take, drop, replicate, sym, ap, ◌∙◌, mod-lt, arith, pow_pos}
 use borrow.Rule.Slice.PartMut.{put_mid}
 use Rattle.std.proofs.lemmas.List.{append_assoc, drop-append-le, drop-drop, length-drop, length-take, take-append-drop, take_at, length-replicate, replicate-append-replicate, get_or-replicate, get_or-drop}
 use Rattle.stream.specs.Packing.{le, be, from_below, from_above, low_first, high_first}
@@ -10,7 +10,7 @@ use Rattle.run.proofs.PackedParts.{part_length, part_split}
 use Rattle.run.proofs.Goods.{good_all}
 use Rattle.run.specs.declared.kind.Run.{Run}
 use Rattle.run.specs.declared.kind.Run.TheVariants.{Repeated, Packed}
-use Rattle.run.specs.Runs.{of_run, whole_in}
+use Rattle.run.specs.Runs.{of_run}
 
 pub run_length : (r : Run) (w at n : ℕ) (bs : List ℕ) → length (of_run r w at n bs) ≡ n
 run_length (Repeated v) w at n bs = length-replicate n v
@@ -37,22 +37,10 @@ wrote_front f at k d o u xs ys h l e g =
     ap (λ z. take at o ++ (z ++ drop d v)) (e ∙ ap (λ z. map f z ++ drop k (take d v)) g)
     ∙ ap (λ z. take at o ++ z) (append_assoc (map f ys) (drop k (take d v)) (drop d v) ∙ ap (λ z. map f ys ++ z) t)
 
--- the bytes of a packed run hold the next numbers
-pub part_whole : (o : Order) (w at n left : ℕ) (bs : List ℕ) → n ≤ left → whole_in (Packed o) w (at + left) bs ≡ true → (at + n) * w ≤ 8 * length bs
-part_whole o w at n left bs h e =
-    let l = leb-true ((at + left) * w) (8 * length bs) e in
-    let k : at + n ≤ at + left = omega arith in
-    let m = mul-le-mul_right w k in
-    omega arith
-
--- copies of a number are good, or none of them is
+-- copies of a good number
 pub good_copies : (limit v n : ℕ) → v < limit → n ≡ good limit (replicate n v)
 good_copies limit v n h =
     sym (good_all limit (replicate n v) (λ i l. omega (arith, get_or-replicate n i v 0 (omega (arith, length-replicate n v)))) ∙ length-replicate n v)
-
-pub bad_copies : (limit v n : ℕ) → limit ≤ v → 0 ≡ good limit (replicate n v)
-bad_copies limit v zero h = refl
-bad_copies limit v (suc n) h = sym (ap (λ b. cond b (1 + good limit (replicate n v)) 0) (le-ltb v limit h))
 
 below_top : (w n x i : ℕ) → i < n → get_or (from_below w n x) i 0 < 2 ^ w
 below_top w zero x i h = absurd (omega arith)
@@ -73,10 +61,3 @@ pub good_width : (o : Order) (w a n limit : ℕ) (bs : List ℕ) → 2 ^ w ≤ l
 good_width o w a n limit bs h =
     let l = part_length o w a n bs in
     sym (good_all limit (part o w a n bs) (λ i k. omega (arith, part_top o w a n bs i (omega arith))) ∙ l)
-
-pub part_room : (r : Run) (o : Order) (w b at n left : ℕ) (bs : List ℕ) → r ≡ Packed o → b ≡ w → n ≤ left → whole_in r w (at + left) bs ≡ true → (at + n) * b ≤ 8 * length bs
-part_room r o w b at n left bs e q h t =
-    let u : whole_in (Packed o) w (at + left) bs ≡ true = ap (λ x. whole_in x w (at + left) bs) (sym e) ∙ t in
-    let m = part_whole o w at n left bs h u in
-    let z : (at + n) * b ≡ (at + n) * w = ap (λ k. (at + n) * k) q in
-    omega arith

@@ -4,19 +4,25 @@ use lib.Bits.{bit_and}
 use Rattle.std.proofs.lemmas.Nat.{shr-shr, shl-shr, shr_high}
 use Rattle.std.proofs.lemmas.List.{length-drop, get_or-drop}
 use Rattle.stream.specs.Packing.{be, from_above, high_first}
-use Rattle.run.specs.Packed.{highs, front}
+use Rattle.run.specs.Packed.{highs}
 use Rattle.std.specs.Int.{from_be_bytes, w64}
 use native.Mathlib.Nat.{mod-one}
 use Rattle.run.proofs.Laws.{Bytes, bytes_more, bits_field, masked}
 
-pub bytes_pow : (n : ℕ) → 256 ^ n ≡ 2 ^ (8 * n)
+-- the number in the first `n` bytes, highest byte first, with zeros behind the end
+abbrev front : ℕ → List ℕ → ℕ
+front zero bs = 0
+front (suc n) [] = 0
+front (suc n) (b ∷ bs) = b * 2 ^ (8 * n) + front n bs
+
+bytes_pow : (n : ℕ) → 256 ^ n ≡ 2 ^ (8 * n)
 bytes_pow zero = refl
 bytes_pow (suc n) = pow-suc 256 n ∙ (ap (λ x. x * 256) (bytes_pow n) ∙ (mul_comm (2 ^ (8 * n)) 256 ∙ sym (bytes_more n)))
 
 be_one : (b : ℕ) (bs : List ℕ) → be (b ∷ bs) ≡ b * 2 ^ (8 * length bs) + be bs
 be_one b bs = ap (λ p. b * p + be bs) (bytes_pow (length bs))
 
-pub be_below : (bs : List ℕ) → Bytes bs → be bs < 2 ^ (8 * length bs)
+be_below : (bs : List ℕ) → Bytes bs → be bs < 2 ^ (8 * length bs)
 be_below [] h = omega arith
 be_below (b ∷ bs) h =
     let i = be_below bs (λ j. h (suc j)) in
@@ -27,7 +33,7 @@ be_below (b ∷ bs) h =
     omega arith
 
 -- what stands behind the first `j` bytes
-pub be_split : (j : ℕ) (bs : List ℕ) → j ≤ length bs → (a : ℕ) × (be bs ≡ be (drop j bs) + 2 ^ (8 * (length bs - j)) * a)
+be_split : (j : ℕ) (bs : List ℕ) → j ≤ length bs → (a : ℕ) × (be bs ≡ be (drop j bs) + 2 ^ (8 * (length bs - j)) * a)
 be_split zero bs h = (0, omega (arith, mul-zero (2 ^ (8 * (length bs - 0)))))
 be_split (suc j) [] h = absurd (omega arith)
 be_split (suc j) (b ∷ bs) h =
@@ -44,7 +50,7 @@ be_split (suc j) (b ∷ bs) h =
     (2 ^ (8 * j) * b + i.0, omega (arith, i.1))
 
 -- the first `n` bytes, and what is left of them
-pub be_front : (n : ℕ) (bs : List ℕ) → Bytes bs → (low : ℕ) × (be bs * 2 ^ (8 * n) ≡ front n bs * 2 ^ (8 * length bs) + low) × (low < 2 ^ (8 * length bs))
+be_front : (n : ℕ) (bs : List ℕ) → Bytes bs → (low : ℕ) × (be bs * 2 ^ (8 * n) ≡ front n bs * 2 ^ (8 * length bs) + low) × (low < 2 ^ (8 * length bs))
 be_front zero bs h = let z = zero-mul (2 ^ (8 * length bs)) in (be bs, omega arith, be_below bs h)
 be_front (suc n) [] h = let z = zero-mul (2 ^ (8 * suc n)) in (0, omega arith, omega arith)
 be_front (suc n) (b ∷ bs) h =
@@ -74,7 +80,7 @@ front_field bs s w h a b =
     ∙ ap (λ x. x / 2 ^ (64 - s - w)) (ap (λ x. x / 2 ^ k) f.1 ∙ shr_high (front 8 bs) k f.0 f.2))))
 
 -- the number that starts `s` bits behind the byte `j`, off the eight bytes there
-pub high_field : (bs : List ℕ) (j s w p x : ℕ) → Bytes bs → s + w ≤ 64 → w < 64 → 8 * j + s + w ≡ p → p ≤ 8 * length bs → x ≡ front 8 (drop j bs)
+high_field : (bs : List ℕ) (j s w p x : ℕ) → Bytes bs → s + w ≤ 64 → w < 64 → 8 * j + s + w ≡ p → p ≤ 8 * length bs → x ≡ front 8 (drop j bs)
     → bit_and (x / 2 ^ (64 - s - w)) ((1 * 2 ^ w) % 18446744073709551616 - 1) ≡ be bs / 2 ^ (8 * length bs - p) % 2 ^ w
 high_field bs j s w p x h l k e b q =
     let xs : List ℕ = drop j bs in
@@ -94,7 +100,7 @@ high_field bs j s w p x h l k e b q =
     ∙ (ap (λ y. y % 2 ^ w) (front_field xs s w hx l lx)
     ∙ ap (λ y. y / 2 ^ (64 - s - w) % 2 ^ w) (sym q))))))
 
-pub front_eight : (bs : List ℕ) → front 8 bs ≡ get_or bs 0 0 * 72057594037927936 + get_or bs 1 0 * 281474976710656 + get_or bs 2 0 * 1099511627776 + get_or bs 3 0 * 4294967296 + get_or bs 4 0 * 16777216 + get_or bs 5 0 * 65536 + get_or bs 6 0 * 256 + get_or bs 7 0
+front_eight : (bs : List ℕ) → front 8 bs ≡ get_or bs 0 0 * 72057594037927936 + get_or bs 1 0 * 281474976710656 + get_or bs 2 0 * 1099511627776 + get_or bs 3 0 * 4294967296 + get_or bs 4 0 * 16777216 + get_or bs 5 0 * 65536 + get_or bs 6 0 * 256 + get_or bs 7 0
 front_eight [] = refl
 front_eight (a ∷ []) = omega arith
 front_eight (a ∷ (b ∷ [])) = omega arith
@@ -105,7 +111,7 @@ front_eight (a ∷ (b ∷ (c ∷ (d ∷ (e ∷ (f ∷ [])))))) = omega arith
 front_eight (a ∷ (b ∷ (c ∷ (d ∷ (e ∷ (f ∷ (g ∷ []))))))) = omega arith
 front_eight (a ∷ (b ∷ (c ∷ (d ∷ (e ∷ (f ∷ (g ∷ (i ∷ t)))))))) = omega arith
 
-pub front_eight_at : (j : ℕ) (bs : List ℕ) → front 8 (drop j bs) ≡ get_or bs j 0 * 72057594037927936 + get_or bs (j + 1) 0 * 281474976710656 + get_or bs (j + 2) 0 * 1099511627776 + get_or bs (j + 3) 0 * 4294967296 + get_or bs (j + 4) 0 * 16777216 + get_or bs (j + 5) 0 * 65536 + get_or bs (j + 6) 0 * 256 + get_or bs (j + 7) 0
+front_eight_at : (j : ℕ) (bs : List ℕ) → front 8 (drop j bs) ≡ get_or bs j 0 * 72057594037927936 + get_or bs (j + 1) 0 * 281474976710656 + get_or bs (j + 2) 0 * 1099511627776 + get_or bs (j + 3) 0 * 4294967296 + get_or bs (j + 4) 0 * 16777216 + get_or bs (j + 5) 0 * 65536 + get_or bs (j + 6) 0 * 256 + get_or bs (j + 7) 0
 front_eight_at j bs =
     let z : j + 0 ≡ j = omega arith in
     let g0 : get_or (drop j bs) 0 0 ≡ get_or bs j 0 = get_or-drop j bs 0 0 ∙ ap (λ i. get_or bs i 0) z in

@@ -19,7 +19,7 @@ pub bytes_more : (k : ℕ) → 2 ^ (8 * suc k) ≡ 256 * 2 ^ (8 * k)
 bytes_more k = let e : 8 * suc k ≡ 8 + 8 * k = omega arith in ap (λ n. 2 ^ n) e ∙ pow-add 2 8 (8 * k)
 
 -- the lowest bytes and those above them
-pub le_split : (k : ℕ) (bs : List ℕ) → le bs ≡ le (take k bs) + 2 ^ (8 * k) * le (drop k bs)
+le_split : (k : ℕ) (bs : List ℕ) → le bs ≡ le (take k bs) + 2 ^ (8 * k) * le (drop k bs)
 le_split zero bs = omega arith
 le_split (suc k) [] = let e = mul_comm (2 ^ (8 * suc k)) 0 in let f = zero-mul (2 ^ (8 * suc k)) in omega arith
 le_split (suc k) (b ∷ bs) =
@@ -27,7 +27,7 @@ le_split (suc k) (b ∷ bs) =
     let e : 2 ^ (8 * suc k) * le (drop k bs) ≡ 256 * (2 ^ (8 * k) * le (drop k bs)) = ap (λ p. p * le (drop k bs)) (bytes_more k) ∙ mul_assoc 256 (2 ^ (8 * k)) (le (drop k bs)) in
     omega arith
 
-pub le_below : (k : ℕ) (bs : List ℕ) → Bytes bs → le (take k bs) < 2 ^ (8 * k)
+le_below : (k : ℕ) (bs : List ℕ) → Bytes bs → le (take k bs) < 2 ^ (8 * k)
 le_below zero bs h = omega arith
 le_below (suc k) [] h = pow_pos (8 * suc k)
 le_below (suc k) (b ∷ bs) h =
@@ -43,13 +43,13 @@ le_drop j bs h =
     ap (λ x. x / 2 ^ (8 * j)) (le_split j bs)
     ∙ (add-mul-div_left (le (take j bs)) (le (drop j bs)) (pow_pos (8 * j)) ∙ (ap (λ x. x + le (drop j bs)) z ∙ omega arith))
 
-pub bits_split : (k w y : ℕ) → w ≤ k → 2 ^ k * y ≡ 2 ^ w * (2 ^ (k - w) * y)
+bits_split : (k w y : ℕ) → w ≤ k → 2 ^ k * y ≡ 2 ^ w * (2 ^ (k - w) * y)
 bits_split k w y h = let e : k ≡ w + (k - w) = omega arith in ap (λ j. 2 ^ j * y) e ∙ (ap (λ t. t * y) (pow-add 2 w (k - w)) ∙ mul_assoc (2 ^ w) (2 ^ (k - w)) y)
 
-pub bits_mod : (a k w y : ℕ) → w ≤ k → (a + 2 ^ k * y) % 2 ^ w ≡ a % 2 ^ w
+bits_mod : (a k w y : ℕ) → w ≤ k → (a + 2 ^ k * y) % 2 ^ w ≡ a % 2 ^ w
 bits_mod a k w y h = ap (λ t. (a + t) % 2 ^ w) (bits_split k w y h) ∙ add-mul-mod_self_left a (2 ^ w) (2 ^ (k - w) * y)
 
-pub bits_div : (a k w y : ℕ) → w ≤ k → (a + 2 ^ k * y) / 2 ^ w ≡ a / 2 ^ w + 2 ^ (k - w) * y
+bits_div : (a k w y : ℕ) → w ≤ k → (a + 2 ^ k * y) / 2 ^ w ≡ a / 2 ^ w + 2 ^ (k - w) * y
 bits_div a k w y h = ap (λ t. (a + t) / 2 ^ w) (bits_split k w y h) ∙ add-mul-div_left a (2 ^ (k - w) * y) (pow_pos w)
 
 -- the `w` bits above the lowest `s` hang on the lowest `k` alone
@@ -60,14 +60,14 @@ bits_field a k s w y h =
     ap (λ x. x % 2 ^ w) (bits_div a k s y l) ∙ bits_mod (a / 2 ^ s) (k - s) w y m
 
 -- the key law: a number is read off the bytes around it
-pub le_window : (n j s w : ℕ) (bs : List ℕ) → Bytes bs → s + w ≤ 8 * n → le (take n (drop j bs)) / 2 ^ s % 2 ^ w ≡ le bs / 2 ^ (8 * j + s) % 2 ^ w
+le_window : (n j s w : ℕ) (bs : List ℕ) → Bytes bs → s + w ≤ 8 * n → le (take n (drop j bs)) / 2 ^ s % 2 ^ w ≡ le bs / 2 ^ (8 * j + s) % 2 ^ w
 le_window n j s w bs h l =
     let d : List ℕ = drop j bs in
     sym (ap (λ x. x % 2 ^ w) (sym (shr-shr (le bs) (8 * j) s))
     ∙ (ap (λ x. x / 2 ^ s % 2 ^ w) (le_drop j bs h ∙ le_split n d) ∙ bits_field (le (take n d)) (8 * n) s w (le (drop n d)) l))
 
 -- the eight bytes in front, with zeros behind the end
-pub le_eight : (bs : List ℕ) → le (take 8 bs) ≡ get_or bs 0 0 + get_or bs 1 0 * 256 + get_or bs 2 0 * 65536 + get_or bs 3 0 * 16777216 + get_or bs 4 0 * 4294967296 + get_or bs 5 0 * 1099511627776 + get_or bs 6 0 * 281474976710656 + get_or bs 7 0 * 72057594037927936
+le_eight : (bs : List ℕ) → le (take 8 bs) ≡ get_or bs 0 0 + get_or bs 1 0 * 256 + get_or bs 2 0 * 65536 + get_or bs 3 0 * 16777216 + get_or bs 4 0 * 4294967296 + get_or bs 5 0 * 1099511627776 + get_or bs 6 0 * 281474976710656 + get_or bs 7 0 * 72057594037927936
 le_eight [] = refl
 le_eight (a ∷ []) = omega arith
 le_eight (a ∷ (b ∷ [])) = omega arith
@@ -78,7 +78,7 @@ le_eight (a ∷ (b ∷ (c ∷ (d ∷ (e ∷ (f ∷ [])))))) = omega arith
 le_eight (a ∷ (b ∷ (c ∷ (d ∷ (e ∷ (f ∷ (g ∷ []))))))) = omega arith
 le_eight (a ∷ (b ∷ (c ∷ (d ∷ (e ∷ (f ∷ (g ∷ (i ∷ t)))))))) = omega arith
 
-pub le_eight_at : (j : ℕ) (bs : List ℕ) → le (take 8 (drop j bs)) ≡ get_or bs j 0 + get_or bs (j + 1) 0 * 256 + get_or bs (j + 2) 0 * 65536 + get_or bs (j + 3) 0 * 16777216 + get_or bs (j + 4) 0 * 4294967296 + get_or bs (j + 5) 0 * 1099511627776 + get_or bs (j + 6) 0 * 281474976710656 + get_or bs (j + 7) 0 * 72057594037927936
+le_eight_at : (j : ℕ) (bs : List ℕ) → le (take 8 (drop j bs)) ≡ get_or bs j 0 + get_or bs (j + 1) 0 * 256 + get_or bs (j + 2) 0 * 65536 + get_or bs (j + 3) 0 * 16777216 + get_or bs (j + 4) 0 * 4294967296 + get_or bs (j + 5) 0 * 1099511627776 + get_or bs (j + 6) 0 * 281474976710656 + get_or bs (j + 7) 0 * 72057594037927936
 le_eight_at j bs =
     let z : j + 0 ≡ j = omega arith in
     let g0 : get_or (drop j bs) 0 0 ≡ get_or bs j 0 = get_or-drop j bs 0 0 ∙ ap (λ i. get_or bs i 0) z in
@@ -148,7 +148,7 @@ below_at w (suc n) x (suc i) h =
     below_at w n (x / 2 ^ w) i (omega arith) ∙ ap (λ y. y % 2 ^ w) (shr-shr x w (i * w) ∙ ap (λ k. x / 2 ^ k) q)
 
 -- what eight bytes hold that stand at `j`, with zeros behind the end
-pub le_read : (bs win : List ℕ) (j x : ℕ) → ((k : ℕ) → k < 8 → get_or win k 0 ≡ get_or bs (j + k) 0) → x ≡ from_le_bytes w64 win → x ≡ le (take 8 (drop j bs))
+le_read : (bs win : List ℕ) (j x : ℕ) → ((k : ℕ) → k < 8 → get_or win k 0 ≡ get_or bs (j + k) 0) → x ≡ from_le_bytes w64 win → x ≡ le (take 8 (drop j bs))
 le_read bs win j x h e =
     let z : j + 0 ≡ j = omega arith in
     let h0 : get_or win 0 0 ≡ get_or bs j 0 = h 0 (omega arith) ∙ ap (λ i. get_or bs i 0) z in
@@ -180,7 +180,7 @@ group_more w g bs h =
     ∙ (ap (λ t. t ++ drop (8 * g) xs) (below_take w (8 * g) 8 x)
     ∙ ap (λ t. from_below w (8 * g) x ++ t) (below_drop w (8 * g) 8 x ∙ ap (from_below w 8) (ap (λ j. x / 2 ^ j) (sym p) ∙ le_drop (g * w) bs h))))
 
-pub groups_are : (w a n m x : ℕ) (bs : List ℕ) → a % 8 ≡ 0 → n ≤ m → x ≡ le bs / 2 ^ (8 * (a / 8 * w)) → from_below w n x ≡ take n (lows w a m bs)
+groups_are : (w a n m x : ℕ) (bs : List ℕ) → a % 8 ≡ 0 → n ≤ m → x ≡ le bs / 2 ^ (8 * (a / 8 * w)) → from_below w n x ≡ take n (lows w a m bs)
 groups_are w a n m x bs z l e =
     let f : a ≡ 8 * (a / 8) = omega arith in
     let p : 8 * (a / 8 * w) ≡ a * w = sym (mul_assoc 8 (a / 8) w) ∙ ap (λ j. j * w) (sym f) in

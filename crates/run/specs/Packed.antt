@@ -1,5 +1,5 @@
 -- Parts of packed numbers, and numbers held against a limit.
-use Rattle.std.specs.Prelude.{ℕ, zero, suc, ◌+◌, ◌*◌, ◌^◌, List, [], ◌∷◌, take, drop, nat_lt}
+use Rattle.std.specs.Prelude.{ℕ, ◌+◌, List, take, drop, nat_lt}
 use Rattle.std.specs.List.{prefix_len}
 use Rattle.stream.specs.Packing.{low_first, high_first}
 use Rattle.run.specs.declared.packed.Part.{Part}
@@ -31,9 +31,3 @@ good limit xs = prefix_len (λ x. nat_lt x limit) xs
 -- those numbers
 abbrev pub all_good : ℕ → List ℕ → List ℕ
 all_good limit xs = take (good limit xs) xs
-
--- the number in the first `n` bytes, highest byte first, with zeros behind the end
-abbrev pub front : ℕ → List ℕ → ℕ
-front zero bs = 0
-front (suc n) [] = 0
-front (suc n) (b ∷ bs) = b * 2 ^ (8 * n) + front n bs

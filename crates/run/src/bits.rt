@@ -7,6 +7,7 @@ ghost use Rattle.run.specs.Coming.{to_come};
 use crate::kind::Run;
 use crate::order::Order;
 use crate::packed::Part;
+use crate::part::numbers_in;
 use crate::reader::RunReader;
 use stream::width::Width;
 
@@ -23,7 +24,7 @@ impl<'a> RunReader<'a> {
         if bytes.len() >= 1 << 34 {
             return RunReader::broken(width);
         }
-        let count = 8 * bytes.len() / bits;
+        let count = numbers_in(bytes.len(), bits);
         if count > 2147483647 {
             return RunReader::broken(width);
         }

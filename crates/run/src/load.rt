@@ -8,6 +8,7 @@ ghost use Rattle.run.specs.Coming.{to_come, Continues, Stopped};
 use crate::kind::{Run, StreamFault};
 use crate::order::Order;
 use crate::packed::Part;
+use crate::part::numbers_in;
 use crate::reader::RunReader;
 use stream::header::{Start, read_header, read_start};
 
@@ -61,7 +62,7 @@ impl<'a> RunReader<'a> {
         let count = if size <= rest.len() {
             8 * groups as usize
         } else {
-            8 * rest.len() / width
+            numbers_in(rest.len(), width)
         };
         self.bytes = &rest[size.min(rest.len())..];
         self.run = Run::Packed(Part {

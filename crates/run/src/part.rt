@@ -1,6 +1,6 @@
 //! Parts of packed numbers, in either order.
 
-ghost use Rattle.std.specs.Prelude.{◌≡◌, ◌+◌, ◌<◌, ◌≤◌, ◌++◌, true, map, length, take, drop, slice_index};
+ghost use Rattle.std.specs.Prelude.{◌≡◌, ◌^◌, ◌/◌, ◌*◌, ◌+◌, ◌<◌, ◌≤◌, ◌++◌, true, map, length, take, drop, slice_index};
 ghost use Rattle.run.specs.Packed.{numbers, good, all_good};
 
 use crate::high::high_bits;
@@ -12,6 +12,15 @@ use element::number::Number;
 
 /// How many numbers are unpacked before they are held against a limit.
 const BLOCK: usize = 256;
+
+/// How many numbers of `width` bits lie whole in `len` bytes.
+pub(crate) fn numbers_in(len: usize, width: usize) -> usize
+    requires some_bits { 0 < width }
+    requires short { len < 2 ^ 34 }
+    ensures { result ≡ 8 * len / width }
+{
+    8 * len / width
+}
 
 impl<'a> Part<'a> {
     /// The first `n` of the numbers.

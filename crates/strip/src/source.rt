@@ -3,7 +3,7 @@ ghost use Rattle.std.specs.Prelude.{◌≡◌};
 ghost use Rattle.page.specs.Coming.{made_of};
 ghost use Rattle.strip.specs.Strip.{strip_of, strip_made};
 
-use crate::record::{front, metadata};
+use crate::record::{Cut, front, metadata};
 use page::fault::{MakingFault, SourceFault};
 use page::page::{Page, PageMetadata};
 use page::reader::PageReader;
@@ -35,20 +35,16 @@ impl<'a> PageReader<'a> for Strip<'a> {
     ghost coming = { strip_of };
 
     fn get_next_page(&mut self) -> Result<Option<Page<'a>>, SourceFault> {
-        match front(self.records, self.data)? {
-            None => Ok(None),
-            Some(cut) => {
-                self.records = cut.rest;
-                Ok(Some(cut.page))
-            }
-        }
+        let Some(Cut { page, rest }) = front(self.records, self.data)? else {
+            return Ok(None);
+        };
+        self.records = rest;
+        Ok(Some(page))
     }
 
     fn peek_next_page(&mut self) -> Result<Option<PageMetadata>, SourceFault> {
-        match front(self.records, self.data)? {
-            None => Ok(None),
-            Some(cut) => Ok(Some(metadata(&cut.page))),
-        }
+        let next = front(self.records, self.data)?;
+        Ok(next.map(|cut| metadata(&cut.page)))
     }
 
     fn skip_next_page(&mut self) -> Result<(), SourceFault> {

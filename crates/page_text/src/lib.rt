@@ -1,6 +1,8 @@
 //! Column files, pages and refusals as lines of text.
 #![tactic(auto)]
 
+pub mod listing;
+
 ghost use Rattle.std.specs.Prelude.{◌≡◌, IfOk, string_bytes};
 ghost use Rattle.page.specs.Coming.{contents_of};
 ghost use Rattle.page.specs.Words.{source_words, making_words};

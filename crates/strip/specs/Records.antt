@@ -6,7 +6,7 @@ use Rattle.page.specs.declared.fault.SourceFault.TheVariants.{CutRecord, Outside
 use Rattle.page.specs.declared.page.Page.{Page}
 use Rattle.page.specs.declared.page.PageMetadata.{PageMetadata}
 use Rattle.strip.specs.declared.record.Record.{Record}
-use Rattle.strip.specs.declared.record.Cut.{Cut}
+use Rattle.strip.specs.declared.source.Cut.{Cut}
 use Rattle.page.specs.Coming.{Coming, clean, fault, Contents, contents_of, metadata, Answer, none, some, bad}
 use Rattle.strip.specs.Strip.{Front, broken, whole, front, strip_told, then_pages, strip_pages}
 

@@ -1,7 +1,7 @@
 //! The records of a strip.
 ghost use Rattle.std.specs.Prelude.{◌≡◌, ◌≤◌, length, IfOk};
-ghost use Rattle.strip.specs.Strip.{dictionary_body, v1_body, v2_body, page_in, strip_pages, span_of};
-ghost use Rattle.strip.specs.Records.{taken_of, whole_of, first_of, behind, page_of, by_front, cut_of, told_of, part_of, parted, rested};
+ghost use Rattle.strip.specs.Strip.{dictionary_body, v1_body, v2_body, page_in, span_of};
+ghost use Rattle.strip.specs.Records.{taken_of, whole_of, first_of, behind, page_of, told_of, part_of, parted, rested};
 
 use page::bytes::u32_at;
 use page::fault::SourceFault;
@@ -40,13 +40,6 @@ pub(crate) enum Record {
     },
 }
 
-/// The first page of a strip, and the rest of the strip.
-#[derive(Clone, Copy)]
-pub(crate) struct Cut<'a> {
-    pub(crate) page: Page<'a>,
-    pub(crate) rest: &'a [u8],
-}
-
 impl Span {
     /// The span that a body begins with.
     fn of(body: &[u8]) -> Span
@@ -70,7 +63,7 @@ impl Span {
 }
 
 /// Takes the first record off a strip.
-fn take_record(strip: &[u8]) -> Result<Option<(Record, &[u8])>, SourceFault>
+pub(crate) fn take_record(strip: &[u8]) -> Result<Option<(Record, &[u8])>, SourceFault>
     ensures { taken_of result ≡ first_of strip.now }
 {
     let Some((kind, body)) = strip.split_first() else {
@@ -138,7 +131,7 @@ fn v2(body: &[u8]) -> Result<(Record, &[u8]), SourceFault>
 }
 
 /// The page that a record names in the data.
-fn page_in(data: &[u8], record: Record) -> Result<Page<'_>, SourceFault>
+pub(crate) fn page_in(data: &[u8], record: Record) -> Result<Page<'_>, SourceFault>
     ensures { page_of result ≡ page_in «data».now «record» }
 {
     Ok(match record {
@@ -185,17 +178,6 @@ fn page_in(data: &[u8], record: Record) -> Result<Page<'_>, SourceFault>
             encoding,
         },
     })
-}
-
-/// The page in front of a strip.
-pub(crate) fn front<'a>(strip: &'a [u8], data: &'a [u8]) -> Result<Option<Cut<'a>>, SourceFault>
-    ensures { strip_pages «data».now strip.now ≡ by_front «data».now (cut_of result) }
-{
-    let Some((record, rest)) = take_record(strip)? else {
-        return Ok(None);
-    };
-    let page = page_in(data, record)?;
-    Ok(Some(Cut { page, rest }))
 }
 
 /// What a peek tells of a strip's page.

@@ -5,7 +5,6 @@ ghost use Rattle.std.specs.Prelude.{◌≡◌};
 ghost use Rattle.page.specs.Coming.{made_of};
 ghost use Rattle.column_file.specs.ColumnFile.{file_of, file_made, type_made, type_number};
 
-use page::bytes::u32_at;
 use page::fault::MakingFault;
 
 /// The type of a column's values.
@@ -58,13 +57,25 @@ impl<'a> ColumnFile<'a> {
     pub fn parse(bytes: &'a [u8]) -> Result<ColumnFile<'a>, MakingFault>
         ensures { made_of file_of result ≡ file_made bytes.now }
     {
-        let rest = bytes.get(7..).ok_or(MakingFault::FileTooShort)?;
-        let physical_type = PhysicalType::try_from(bytes[2])?;
-        let length = u32_at(bytes, 3) as usize;
+        let [
+            max_rep_level,
+            max_def_level,
+            kind,
+            s0,
+            s1,
+            s2,
+            s3,
+            rest @ ..,
+        ] = bytes
+        else {
+            return Err(MakingFault::FileTooShort);
+        };
+        let physical_type = PhysicalType::try_from(*kind)?;
+        let length = u32::from_le_bytes([*s0, *s1, *s2, *s3]) as usize;
         let (strip, data) = rest.split_at_checked(length).ok_or(MakingFault::FileStrip)?;
         Ok(ColumnFile {
-            max_rep_level: bytes[0],
-            max_def_level: bytes[1],
+            max_rep_level: *max_rep_level,
+            max_def_level: *max_def_level,
             physical_type,
             strip,
             data,

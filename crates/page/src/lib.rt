@@ -2,7 +2,6 @@
 //! and a list of all pages of any source.
 #![tactic(auto)]
 
-pub mod bytes;
 pub mod chain;
 pub mod fault;
 pub mod list;

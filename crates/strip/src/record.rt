@@ -1,9 +1,9 @@
 //! The records of a strip.
-ghost use Rattle.std.specs.Prelude.{◌≡◌, ◌≤◌, length, IfOk};
+ghost use Rattle.std.specs.Prelude.{◌≡◌, ◌+◌, ◌≤◌, length, IfOk};
+ghost use Rattle.page.specs.Bytes.{le4};
 ghost use Rattle.strip.specs.Strip.{dictionary_body, v1_body, v2_body, page_in, span_of};
 ghost use Rattle.strip.specs.Records.{taken_of, whole_of, first_of, behind, page_of, told_of, part_of, parted, rested};
 
-use page::bytes::u32_at;
 use page::fault::SourceFault;
 use page::page::{Page, PageMetadata};
 
@@ -38,6 +38,14 @@ pub(crate) enum Record {
         def_levels_byte_len: u32,
         encoding: u8,
     },
+}
+
+/// The number in the four bytes from the `at`-th on, lowest first.
+fn u32_at(bytes: &[u8], at: usize) -> u32
+    requires { at + 4 ≤ length bytes.now }
+    ensures { result ≡ le4 bytes.now at }
+{
+    u32::from_le_bytes([bytes[at], bytes[at + 1], bytes[at + 2], bytes[at + 3]])
 }
 
 impl Span {

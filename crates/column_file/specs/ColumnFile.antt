@@ -1,6 +1,5 @@
 -- The column file: one byte repetition maximum, one byte definition maximum, one byte type, four bytes strip length, strip, data.
 use Rattle.std.specs.Prelude.{ℕ, cond, List, length, take, drop, Ok, Err, Result, ◌==◌, nat_lt, slice_index}
-use Rattle.std.specs.Borrow.{Bor}
 use Rattle.page.specs.declared.fault.MakingFault.{MakingFault}
 use Rattle.page.specs.declared.fault.MakingFault.TheVariants.{FileTooShort, FileType, FileStrip}
 use Rattle.column_file.specs.declared.PhysicalType.{PhysicalType}
@@ -19,6 +18,11 @@ pub record File : Type 0 where
 -- 0 is BOOLEAN, 1 INT32, 2 INT64
 abbrev pub type_made : ℕ → Result PhysicalType MakingFault
 type_made t = cond (t == 0) (Ok Boolean) (cond (t == 1) (Ok Int32) (cond (t == 2) (Ok Int64) (Err (FileType t))))
+
+abbrev pub type_number : PhysicalType → ℕ
+type_number Boolean = 0
+type_number Int32 = 1
+type_number Int64 = 2
 
 -- strip and data
 pub record Parts : Type 0 where
@@ -40,9 +44,6 @@ file_made bs =
     cond (nat_lt (length bs) 7) (Err FileTooShort)
     (whole_file (slice_index bs 0) (slice_index bs 1) (type_made (slice_index bs 2)) (parts_made (drop 7 bs) (le4 bs 3)))
 
--- the code's file and its parts
+-- the code's file
 abbrev pub file_of : ColumnFile → File
 file_of f = record { repetition = f.max_rep_level; definition = f.max_def_level; of_type = f.physical_type; strip = f.strip.now; column = f.«data».now }
-
-abbrev pub parts_of : Bor (List ℕ) × Bor (List ℕ) → Parts
-parts_of p = record { strip = p.0.now; column = p.1.now }

@@ -3,7 +3,7 @@
 
 ghost use Rattle.std.specs.Prelude.{◌≡◌};
 ghost use Rattle.page.specs.Coming.{made_of};
-ghost use Rattle.column_file.specs.ColumnFile.{file_of, file_made, type_made, parts_of, parts_made};
+ghost use Rattle.column_file.specs.ColumnFile.{file_of, file_made, type_made, type_number};
 
 use page::fault::MakingFault;
 
@@ -25,27 +25,31 @@ pub struct ColumnFile<'a> {
     pub data: &'a [u8],
 }
 
-/// What a column file's type byte means.
-fn physical_type(byte: u8) -> Result<PhysicalType, MakingFault>
-    ensures { result ≡ type_made byte }
-{
-    match byte {
-        0 => Ok(PhysicalType::Boolean),
-        1 => Ok(PhysicalType::Int32),
-        2 => Ok(PhysicalType::Int64),
-        other => Err(MakingFault::FileType(other)),
+impl TryFrom<u8> for PhysicalType {
+    type Error = MakingFault;
+
+    ghost try_from_gives = { λ t r. r ≡ type_made t };
+
+    fn try_from(byte: u8) -> Result<PhysicalType, MakingFault> {
+        match byte {
+            0 => Ok(PhysicalType::Boolean),
+            1 => Ok(PhysicalType::Int32),
+            2 => Ok(PhysicalType::Int64),
+            other => Err(MakingFault::FileType(other)),
+        }
     }
 }
 
-/// The strip of `length` bytes, and the data behind it.
-fn parts(bytes: &[u8], length: u32) -> Result<(&[u8], &[u8]), MakingFault>
-    ensures { made_of parts_of result ≡ parts_made bytes.now length }
-{
-    let length = length as usize;
-    if length > bytes.len() {
-        return Err(MakingFault::FileStrip);
+impl From<PhysicalType> for u8 {
+    ghost from_gives = { λ t r. r ≡ type_number t };
+
+    fn from(physical_type: PhysicalType) -> u8 {
+        match physical_type {
+            PhysicalType::Boolean => 0,
+            PhysicalType::Int32 => 1,
+            PhysicalType::Int64 => 2,
+        }
     }
-    Ok(bytes.split_at(length))
 }
 
 impl<'a> ColumnFile<'a> {
@@ -53,28 +57,28 @@ impl<'a> ColumnFile<'a> {
     pub fn parse(bytes: &'a [u8]) -> Result<ColumnFile<'a>, MakingFault>
         ensures { made_of file_of result ≡ file_made bytes.now }
     {
-        match bytes {
-            [
-                max_rep_level,
-                max_def_level,
-                kind,
-                s0,
-                s1,
-                s2,
-                s3,
-                rest @ ..,
-            ] => {
-                let physical_type = physical_type(*kind)?;
-                let (strip, data) = parts(rest, u32::from_le_bytes([*s0, *s1, *s2, *s3]))?;
-                Ok(ColumnFile {
-                    max_rep_level: *max_rep_level,
-                    max_def_level: *max_def_level,
-                    physical_type,
-                    strip,
-                    data,
-                })
-            }
-            _ => Err(MakingFault::FileTooShort),
-        }
+        let [
+            max_rep_level,
+            max_def_level,
+            kind,
+            s0,
+            s1,
+            s2,
+            s3,
+            rest @ ..,
+        ] = bytes
+        else {
+            return Err(MakingFault::FileTooShort);
+        };
+        let physical_type = PhysicalType::try_from(*kind)?;
+        let length = u32::from_le_bytes([*s0, *s1, *s2, *s3]) as usize;
+        let (strip, data) = rest.split_at_checked(length).ok_or(MakingFault::FileStrip)?;
+        Ok(ColumnFile {
+            max_rep_level: *max_rep_level,
+            max_def_level: *max_def_level,
+            physical_type,
+            strip,
+            data,
+        })
     }
 }

@@ -1,3 +1,4 @@
 pub mod Bytes
 pub mod Coming
 pub mod Listing
+pub mod Words

@@ -1,5 +1,5 @@
 -- What a list of pages says of a source.
-use Rattle.std.specs.Prelude.{◌≡◌, ◌<◌, Bool, true, false, List, [], map, length, Ok, Err, Result}
+use Rattle.std.specs.Prelude.{◌≡◌, List, [], map, Ok, Err, Result}
 use Rattle.page.specs.declared.page.PageMetadata.{PageMetadata}
 use Rattle.page.specs.declared.list.ListedPage.{ListedPage}
 use Rattle.page.specs.declared.list.ListError.{ListError}
@@ -26,9 +26,3 @@ abbrev pub ListedAll : Result Unit ListError → Coming → Coming → Type 0
 ListedAll (Ok _) left was = (left.pages ≡ []) × (left.ends ≡ clean) × (was.ends ≡ clean)
 ListedAll (Err (Source f)) left was = (left.pages ≡ []) × (left.ends ≡ fault f) × (was.ends ≡ fault f)
 ListedAll (Err NoMemory) left was = left.ends ≡ was.ends
-
--- The same of one page: there was one, and fewer are left; or the pages have ended.
-abbrev pub ListedNext : Result Bool ListError → Coming → Coming → Type 0
-ListedNext (Ok true) left was = (length left.pages < length was.pages) × (left.ends ≡ was.ends)
-ListedNext (Ok false) left was = ListedAll (Ok tt) left was
-ListedNext (Err e) left was = ListedAll (Err e) left was

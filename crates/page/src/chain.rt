@@ -31,15 +31,15 @@ impl<'a, A: PageReader<'a>, B: PageReader<'a>> PageReader<'a> for Chain<A, B> {
 
     fn get_next_page(&mut self) -> Result<Option<Page<'a>>, SourceFault> {
         match self.first.get_next_page()? {
-            Some(page) => Ok(Some(page)),
             None => self.second.get_next_page(),
+            page => Ok(page),
         }
     }
 
     fn peek_next_page(&mut self) -> Result<Option<PageMetadata>, SourceFault> {
         match self.first.peek_next_page()? {
-            Some(metadata) => Ok(Some(metadata)),
             None => self.second.peek_next_page(),
+            metadata => Ok(metadata),
         }
     }
 

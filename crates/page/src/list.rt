@@ -1,7 +1,7 @@
 //! A list of all pages of a source.
 ghost use Rattle.std.specs.Prelude.{◌≡◌, ◌++◌, map};
 ghost use Rattle.page.specs.declared.list.ListError.TheVariants.{Source, NoMemory};
-ghost use Rattle.page.specs.Listing.{listed_of, listing, ListedNext, ListedAll};
+ghost use Rattle.page.specs.Listing.{listed_of, listing, ListedAll};
 
 use crate::fault::SourceFault;
 use crate::page::{Page, PageMetadata};
@@ -40,26 +40,6 @@ impl From<AllocError> for ListError {
     }
 }
 
-/// Lists the next page of a source behind those in `pages`; `false` where no page is left.
-fn list_next<'a, S: PageReader<'a>>(
-    source: &mut S,
-    pages: &mut Vec<ListedPage<'a>>,
-) -> Result<bool, ListError>
-    ensures all { map listed_of pages.new.items ++ listing (S.PageReader.coming source.new) ≡ map listed_of pages.old.items ++ listing (S.PageReader.coming source.old) }
-    ensures end { ListedNext result (S.PageReader.coming source.new) (S.PageReader.coming source.old) }
-{
-    let Some(metadata) = source.peek_next_page()? else {
-        return Ok(false);
-    };
-    // The place comes first, so that no page is taken that cannot be kept.
-    pages.reserve(1)?;
-    let Some(page) = source.get_next_page()? else {
-        return Ok(false);
-    };
-    pages.push_reserved(ListedPage { metadata, page });
-    Ok(true)
-}
-
 /// Lists the pages of a source behind those in `pages`, to the source's end. What is listed and
 /// what is still to come are always all of the pages: also where memory ends, none is lost.
 pub fn list_pages<'a, S: PageReader<'a>>(
@@ -69,6 +49,13 @@ pub fn list_pages<'a, S: PageReader<'a>>(
     ensures all { map listed_of pages.new.items ++ listing (S.PageReader.coming source.new) ≡ map listed_of pages.old.items ++ listing (S.PageReader.coming source.old) }
     ensures end { ListedAll result (S.PageReader.coming source.new) (S.PageReader.coming source.old) }
 {
-    while list_next(source, pages)? {}
+    while let Some(metadata) = source.peek_next_page()? {
+        // The place comes first, so that no page is taken that cannot be kept.
+        pages.reserve(1)?;
+        let Some(page) = source.get_next_page()? else {
+            break;
+        };
+        pages.push_reserved(ListedPage { metadata, page });
+    }
     Ok(())
 }

@@ -1,4 +1,9 @@
 //! What a source hands out.
+ghost use Rattle.std.specs.Prelude.{Some};
+ghost use Rattle.page.specs.Coming.{contents_of};
+ghost use Rattle.page.specs.Words.{page_words, fields_words};
+
+use std::fmt;
 
 /// A page, with its bytes lent by the source, uncopied. `place` is where they begin in the
 /// source's data: a listing shows it, no decoder reads it. Encodings are the bytes of the page's
@@ -43,4 +48,66 @@ pub struct PageMetadata {
     pub num_levels: Option<u32>,
     /// Whether the page is a dictionary.
     pub is_dict: bool,
+}
+
+impl fmt::Display for Page<'_> {
+    ghost output = { λ p. Some (page_words (contents_of p)) };
+
+    fn fmt<W: fmt::Write>(&self, f: &mut fmt::Formatter<W>) -> fmt::Result {
+        let fields = Fields(*self);
+        match *self {
+            Page::DictionaryPage { place, buf, .. } => {
+                let length = buf.len();
+                write!(f, "dictionary place {place} length {length} {fields}")
+            }
+            Page::DataPage { place, buf, .. } => {
+                let length = buf.len();
+                write!(f, "v1 place {place} length {length} {fields}")
+            }
+            Page::DataPageV2 { place, buf, .. } => {
+                let length = buf.len();
+                write!(f, "v2 place {place} length {length} {fields}")
+            }
+        }
+    }
+}
+
+/// What each kind of page has of its own.
+#[derive(Clone, Copy)]
+struct Fields<'a>(Page<'a>);
+
+impl fmt::Display for Fields<'_> {
+    ghost output = { λ p. Some (fields_words (contents_of p.0)) };
+
+    fn fmt<W: fmt::Write>(&self, f: &mut fmt::Formatter<W>) -> fmt::Result {
+        match self.0 {
+            Page::DictionaryPage {
+                num_values,
+                encoding,
+                ..
+            } => write!(f, "values {num_values} encoding {encoding}"),
+            Page::DataPage {
+                num_values,
+                encoding,
+                def_level_encoding,
+                rep_level_encoding,
+                ..
+            } => write!(
+                f,
+                "levels {num_values} encoding {encoding} definition {def_level_encoding} repetition {rep_level_encoding}"
+            ),
+            Page::DataPageV2 {
+                num_values,
+                num_nulls,
+                num_rows,
+                rep_levels_byte_len,
+                def_levels_byte_len,
+                encoding,
+                ..
+            } => write!(
+                f,
+                "levels {num_values} nulls {num_nulls} rows {num_rows} repetition-bytes {rep_levels_byte_len} definition-bytes {def_levels_byte_len} encoding {encoding}"
+            ),
+        }
+    }
 }

@@ -28,12 +28,11 @@ pub trait PageReader<'a> {
 }
 
 /// Whether a record boundary follows: no page comes, or the next page's rows are told.
+// Kept: a function, for a trait with a lifetime parameter may not give a method its body (tried).
 pub fn at_record_boundary<'a, S: PageReader<'a>>(source: &mut S) -> Result<bool, SourceFault>
     ensures reply { flag_of result ≡ boundary (S.PageReader.coming source.old) }
     ensures stays { S.PageReader.coming source.new ≡ S.PageReader.coming source.old }
 {
-    match source.peek_next_page()? {
-        None => Ok(true),
-        Some(metadata) => Ok(metadata.num_rows.is_some()),
-    }
+    let next = source.peek_next_page()?;
+    Ok(next.is_none_or(|metadata| metadata.num_rows.is_some()))
 }

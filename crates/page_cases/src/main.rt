@@ -6,14 +6,15 @@
 //! `file BYTES` takes a column file apart.
 #![tactic(auto)]
 
+mod source;
+
+use crate::source::Source;
 use column_file::ColumnFile;
 use page::chain::Chain;
-use page::fault::MakingFault;
-use page::list::{ListError, ListedPage, list_pages};
+use page::fault::{MakingFault, SourceFault};
 use page::reader::{PageReader, at_record_boundary};
-use page_text::{
-    broken_line, end_line, header_line, making_cause, page_line, refused_line, source_cause,
-};
+use page_text::listing::print_listing;
+use page_text::{broken_line, header_line, making_cause, refused_line, source_cause};
 use raw::Raw;
 use std::alloc::{AllocError, Global};
 use std::io;
@@ -42,119 +43,101 @@ fn bytes_of(heap: Global, word: &str) -> Result<Vec<u8>, AllocError> {
 
 /// A source as its words have it.
 #[derive(Drop)]
-struct Words {
-    raw: bool,
-    width: usize,
-    count: usize,
-    first: Vec<u8>,
-    second: Vec<u8>,
+enum Words {
+    Strip {
+        records: Vec<u8>,
+        data: Vec<u8>,
+    },
+    Raw {
+        width: usize,
+        count: usize,
+        values: Vec<u8>,
+    },
 }
 
-/// Takes the words of a source off the front of `words`.
-fn source_words<'w>(
-    heap: Global,
-    words: &'w [&'w str],
-) -> Result<(Words, &'w [&'w str]), AllocError> {
-    match words {
-        ["strip", records, data, rest @ ..] => {
-            let first = bytes_of(heap, records)?;
-            let second = bytes_of(heap, data)?;
-            Ok((
-                Words {
-                    raw: false,
-                    width: 0,
-                    count: 0,
-                    first,
-                    second,
-                },
-                rest,
-            ))
+impl Words {
+    /// Takes the words of a source off the front of `words`; others are a source of no width.
+    fn take<'w>(heap: Global, words: &'w [&'w str]) -> Result<(Words, &'w [&'w str]), AllocError> {
+        match words {
+            ["strip", records, data, rest @ ..] => {
+                let records = bytes_of(heap, records)?;
+                let data = bytes_of(heap, data)?;
+                Ok((Words::Strip { records, data }, rest))
+            }
+            ["raw", width, count, values, rest @ ..] => {
+                let width = width.parse::<usize>().unwrap_or(0);
+                let count = count.parse::<usize>().unwrap_or(0);
+                let values = bytes_of(heap, values)?;
+                Ok((
+                    Words::Raw {
+                        width,
+                        count,
+                        values,
+                    },
+                    rest,
+                ))
+            }
+            rest => {
+                let values = Vec::new(heap);
+                Ok((
+                    Words::Raw {
+                        width: 0,
+                        count: 0,
+                        values,
+                    },
+                    rest,
+                ))
+            }
         }
-        ["raw", width, count, values, rest @ ..] => {
-            let width = width.parse::<usize>().unwrap_or(0);
-            let count = count.parse::<usize>().unwrap_or(0);
-            let first = bytes_of(heap, values)?;
-            Ok((
-                Words {
-                    raw: true,
-                    width,
-                    count,
-                    first,
-                    second: Vec::new(heap),
-                },
-                rest,
-            ))
+    }
+
+    /// The source, if it can be made.
+    fn source(&self) -> Result<Source<'_>, MakingFault> {
+        match self {
+            Words::Strip { records, data } => Ok(Source::Strip(Strip::new(
+                records.as_slice(),
+                data.as_slice(),
+            )?)),
+            Words::Raw {
+                width,
+                count,
+                values,
+            } => Ok(Source::Raw(Raw::new(values.as_slice(), *width, *count)?)),
         }
-        rest => Ok((
-            Words {
-                raw: true,
-                width: 0,
-                count: 0,
-                first: Vec::new(heap),
-                second: Vec::new(heap),
-            },
-            rest,
-        )),
     }
 }
 
-/// Prints what a call answers.
-fn call<'a, S: PageReader<'a>>(
+/// Prints what a call answers, or hands on its fault.
+fn reply<'a, S: PageReader<'a>>(
     rt: &HostRuntime,
     source: &mut S,
     number: usize,
     letter: u8,
-) -> io::Result<()> {
-    let heap = rt.alloc();
-    match letter {
-        b'p' => match source.peek_next_page() {
-            Ok(None) => println!(rt; "none"),
-            Ok(Some(m)) => {
+) -> Result<io::Result<()>, SourceFault> {
+    Ok(match letter {
+        b'p' => match source.peek_next_page()? {
+            Some(m) => {
                 let dictionary = m.is_dict;
                 let rows = m.num_rows;
                 let levels = m.num_levels;
                 println!(rt; "dictionary {dictionary} rows {rows:?} levels {levels:?}")
             }
-            Err(fault) => rt.println(broken_line(heap, number, source_cause(fault))?),
+            None => println!(rt; "none"),
         },
-        b'g' => match source.get_next_page() {
-            Ok(None) => println!(rt; "none"),
-            Ok(Some(page)) => rt.println(page_line(heap, number, &page)?),
-            Err(fault) => rt.println(broken_line(heap, number, source_cause(fault))?),
+        b'g' => match source.get_next_page()? {
+            Some(page) => println!(rt; "{number}: {page}"),
+            None => println!(rt; "none"),
         },
-        b's' => match source.skip_next_page() {
-            Ok(()) => println!(rt; "skipped"),
-            Err(fault) => rt.println(broken_line(heap, number, source_cause(fault))?),
-        },
-        b'b' => match at_record_boundary(source) {
-            Ok(boundary) => println!(rt; "boundary {boundary}"),
-            Err(fault) => rt.println(broken_line(heap, number, source_cause(fault))?),
-        },
-        _ => list(rt, source),
-    }
-}
-
-/// Lists a source to its end.
-fn list<'a, S: PageReader<'a>>(rt: &HostRuntime, source: &mut S) -> io::Result<()> {
-    let heap = rt.alloc();
-    let mut pages = Vec::new(heap);
-    let end = list_pages(source, &mut pages);
-    print_pages(rt, pages.as_slice())?;
-    let count = pages.len();
-    match end {
-        Ok(()) => rt.println(end_line(heap, count)?),
-        Err(ListError::Source(fault)) => rt.println(broken_line(heap, count, source_cause(fault))?),
-        Err(ListError::NoMemory) => Err(io::Error::from(io::ErrorKind::OutOfMemory)),
-    }
-}
-
-/// Prints a line for each page.
-fn print_pages(rt: &HostRuntime, pages: &[ListedPage]) -> io::Result<()> {
-    let heap = rt.alloc();
-    for (number, listed) in pages.iter().enumerate() {
-        rt.println(page_line(heap, number, &listed.page)?)?;
-    }
-    Ok(())
+        b's' => {
+            source.skip_next_page()?;
+            println!(rt; "skipped")
+        }
+        b'b' => {
+            let boundary = at_record_boundary(source)?;
+            println!(rt; "boundary {boundary}")
+        }
+        _ => print_listing(rt, rt.alloc(), source),
+    })
 }
 
 /// Makes each call on a source, or tells why there is none.
@@ -163,61 +146,27 @@ fn calls<'a, S: PageReader<'a> + Drop>(
     source: Result<S, MakingFault>,
     letters: &str,
 ) -> io::Result<()> {
+    let heap = rt.alloc();
     match source {
         Ok(mut source) => {
             for (number, letter) in letters.bytes().enumerate() {
-                call(rt, &mut source, number, letter)?;
+                match reply(rt, &mut source, number, letter) {
+                    Ok(printed) => printed?,
+                    Err(fault) => rt.println(broken_line(heap, number, source_cause(fault))?)?,
+                }
             }
             Ok(())
         }
-        Err(fault) => rt.println(refused_line(rt.alloc(), making_cause(fault))?),
+        Err(fault) => rt.println(refused_line(heap, making_cause(fault))?),
     }
 }
 
-fn strip_of(words: &Words) -> Result<Strip<'_>, MakingFault> {
-    Strip::new(words.first.as_slice(), words.second.as_slice())
-}
-
-fn raw_of(words: &Words) -> Result<Raw<'_>, MakingFault> {
-    Raw::new(words.first.as_slice(), words.width, words.count)
-}
-
-/// The chain of two sources, if both were made.
-fn chained<'a, A: PageReader<'a> + Drop, B: PageReader<'a> + Drop>(
-    first: Result<A, MakingFault>,
-    second: Result<B, MakingFault>,
-) -> Result<Chain<A, B>, MakingFault> {
-    match first {
-        Ok(first) => match second {
-            Ok(second) => Ok(Chain::new(first, second)),
-            Err(fault) => Err(fault),
-        },
-        Err(fault) => Err(fault),
-    }
-}
-
-/// A case of one source.
-fn one(rt: &HostRuntime, words: &Words, letters: &str) -> io::Result<()> {
-    if words.raw {
-        calls(rt, raw_of(words), letters)
-    } else {
-        calls(rt, strip_of(words), letters)
-    }
-}
-
-/// A case of a chain.
-fn both<'w>(
-    rt: &HostRuntime,
+/// The chain of two sources, if both are made.
+fn chained<'w>(
     first: &'w Words,
     second: &'w Words,
-    letters: &str,
-) -> io::Result<()> {
-    match (first.raw, second.raw) {
-        (false, false) => calls(rt, chained(strip_of(first), strip_of(second)), letters),
-        (false, true) => calls(rt, chained(strip_of(first), raw_of(second)), letters),
-        (true, false) => calls(rt, chained(raw_of(first), strip_of(second)), letters),
-        (true, true) => calls(rt, chained(raw_of(first), raw_of(second)), letters),
-    }
+) -> Result<Chain<Source<'w>, Source<'w>>, MakingFault> {
+    Ok(Chain::new(first.source()?, second.source()?))
 }
 
 /// A case of a column file.
@@ -240,17 +189,17 @@ fn case(rt: &HostRuntime, words: &[&str]) -> io::Result<()> {
     match words {
         ["file", bytes] => file(rt, bytes_of(heap, bytes)?.as_slice()),
         ["chain", rest @ ..] => {
-            let (first, rest) = source_words(heap, rest)?;
-            let (second, rest) = source_words(heap, rest)?;
+            let (first, rest) = Words::take(heap, rest)?;
+            let (second, rest) = Words::take(heap, rest)?;
             match rest {
-                [letters] => both(rt, &first, &second, letters),
+                [letters] => calls(rt, chained(&first, &second), letters),
                 _ => println!(rt; "no case"),
             }
         }
         words => {
-            let (source, rest) = source_words(heap, words)?;
+            let (source, rest) = Words::take(heap, words)?;
             match rest {
-                [letters] => one(rt, &source, letters),
+                [letters] => calls(rt, source.source(), letters),
                 _ => println!(rt; "no case"),
             }
         }

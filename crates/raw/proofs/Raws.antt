@@ -68,21 +68,21 @@ raw_next w k at n vs h l e =
     ∙ ap (λ t. raw_page w at (take n (drop at vs)) ∷ cut_pages (pages_in (w * k) (length t)) w (w * k) (at + n) t) (drop-drop n at vs))
 
 -- a page has some bytes
-page_some : (w : Width) (l : ℕ) → 0 < bytes_of w * (l + 1)
-page_some Four l = omega arith
-page_some Eight l = omega arith
+page_some : (w : Width) (k : ℕ) → 0 < k → 0 < bytes_of w * k
+page_some Four k h = omega arith
+page_some Eight k h = omega arith
 
 -- the code's source, with no value left, and with n bytes in its next page
 pub part_none : (r : Raw) → length r.values.now ≤ r.at → raw_of r ≡ record { pages = []; ends = clean }
-part_none r h = raw_end (bytes_of r.width) (r.last + 1) r.at r.values.now (page_some r.width r.last) h
+part_none r h = raw_end (bytes_of r.width) r.page_values.count r.at r.values.now (page_some r.width r.page_values.count r.page_values.some) h
 
 same_part : (r : Raw) (n : ℕ) (t : List ℕ) → t ≡ take n (drop r.at r.values.now) → length t ≡ n
-    → raw_of r ≡ record { pages = raw_page (bytes_of r.width) r.at (take n (drop r.at r.values.now)) ∷ (raw_pages (bytes_of r.width) (r.last + 1) (r.at + n) (drop (r.at + n) r.values.now)).pages; ends = clean }
-    → raw_of r ≡ record { pages = raw_page (bytes_of r.width) r.at t ∷ (raw_pages (bytes_of r.width) (r.last + 1) (r.at + length t) (drop (r.at + length t) r.values.now)).pages; ends = clean }
+    → raw_of r ≡ record { pages = raw_page (bytes_of r.width) r.at (take n (drop r.at r.values.now)) ∷ (raw_pages (bytes_of r.width) r.page_values.count (r.at + n) (drop (r.at + n) r.values.now)).pages; ends = clean }
+    → raw_of r ≡ record { pages = raw_page (bytes_of r.width) r.at t ∷ (raw_pages (bytes_of r.width) r.page_values.count (r.at + length t) (drop (r.at + length t) r.values.now)).pages; ends = clean }
 same_part r n t e l q =
     q
-    ∙ (ap (λ (u : List ℕ). record { pages = raw_page (bytes_of r.width) r.at u ∷ (raw_pages (bytes_of r.width) (r.last + 1) (r.at + n) (drop (r.at + n) r.values.now)).pages; ends = clean }) (sym e)
-    ∙ ap (λ (m : ℕ). record { pages = raw_page (bytes_of r.width) r.at t ∷ (raw_pages (bytes_of r.width) (r.last + 1) (r.at + m) (drop (r.at + m) r.values.now)).pages; ends = clean }) (sym l))
+    ∙ (ap (λ (u : List ℕ). record { pages = raw_page (bytes_of r.width) r.at u ∷ (raw_pages (bytes_of r.width) r.page_values.count (r.at + n) (drop (r.at + n) r.values.now)).pages; ends = clean }) (sym e)
+    ∙ ap (λ (m : ℕ). record { pages = raw_page (bytes_of r.width) r.at t ∷ (raw_pages (bytes_of r.width) r.page_values.count (r.at + m) (drop (r.at + m) r.values.now)).pages; ends = clean }) (sym l))
 
 pub part_length : (at n : ℕ) (vs : List ℕ) → at + n ≤ length vs → length (take (at + n - at) (drop at vs)) ≡ n
 part_length at n vs h = length-take (at + n - at) (drop at vs) ∙ (ap (min (at + n - at)) (length-drop at vs) ∙ omega arith)
@@ -93,4 +93,4 @@ part_some r n h e =
     same_part r n (take (r.at + n - r.at) (drop r.at r.values.now))
     (ap (λ m. take m (drop r.at r.values.now)) (let z : r.at + n - r.at ≡ n = omega arith in z))
     (part_length r.at n r.values.now (omega arith))
-    (raw_next (bytes_of r.width) (r.last + 1) r.at n r.values.now (page_some r.width r.last) h e)
+    (raw_next (bytes_of r.width) r.page_values.count r.at n r.values.now (page_some r.width r.page_values.count r.page_values.some) h e)

@@ -1,1 +1,2 @@
+pub mod PageValues
 pub mod Raw

@@ -35,16 +35,20 @@ raw_made bs w k =
     (Err RawPageValues))
     (Err RawWidth)
 
+-- the width of so many bytes
+abbrev pub width_made : ℕ → Result Width MakingFault
+width_made n = cond (n == 4) (Ok Four) (cond (n == 8) (Ok Eight) (Err RawWidth))
+
 abbrev pub bytes_of : Width → ℕ
 bytes_of Four = 4
 bytes_of Eight = 8
 
 abbrev pub page_bytes_of : Raw → ℕ
-page_bytes_of r = bytes_of r.width * (r.last + 1)
+page_bytes_of r = bytes_of r.width * r.page_values.count
 
 -- the meaning of the code's raw source
 abbrev pub raw_of : Raw → Coming
-raw_of r = raw_pages (bytes_of r.width) (r.last + 1) r.at (drop r.at r.values.now)
+raw_of r = raw_pages (bytes_of r.width) r.page_values.count r.at (drop r.at r.values.now)
 
 -- For the inner function: the pages by the bytes of the next one, if a value is left,
 abbrev pub by_part : Raw → Option (Bor (List ℕ)) → Coming
@@ -52,7 +56,7 @@ by_part r None = record { pages = []; ends = clean }
 by_part r (Some part) =
     record {
       pages = raw_page (bytes_of r.width) r.at part.now
-          ∷ (raw_pages (bytes_of r.width) (r.last + 1) (r.at + length part.now) (drop (r.at + length part.now) r.values.now)).pages;
+          ∷ (raw_pages (bytes_of r.width) r.page_values.count (r.at + length part.now) (drop (r.at + length part.now) r.values.now)).pages;
       ends = clean;
     }
 

@@ -26,10 +26,7 @@ strip_first : (d s : List ℕ) → strip_pages d s ≡ by_first d (first_of s)
 strip_first d [] = refl
 strip_first d (kind ∷ s) = onto_front d s (front kind s)
 
-pub strip_is : (d s : List ℕ) (f : First) → f ≡ first_of s → strip_pages d s ≡ by_first d f
-strip_is d s f e = strip_first d s ∙ ap (by_first d) (sym e)
-
 -- where a record is in front, its page comes first
 pub strip_record : (d s : List ℕ) (r : Record) (b : List ℕ) (p : Result Contents SourceFault) → first r b ≡ first_of s → p ≡ page_in d r
     → strip_pages d s ≡ then_pages p (strip_pages d b)
-strip_record d s r b p e f = strip_is d s (first r b) e ∙ ap (λ q. then_pages q (strip_pages d b)) (sym f)
+strip_record d s r b p e f = strip_first d s ∙ (ap (by_first d) (sym e) ∙ sym (ap (λ q. then_pages q (strip_pages d b)) f))

@@ -2,13 +2,11 @@
 use Rattle.std.specs.Prelude.{ℕ, ◌+◌, cond, List, [], ◌∷◌, length, take, drop, Some, None, Ok, Err, Option, Result, nat_lt}
 use Rattle.std.specs.Borrow.{Bor}
 use Rattle.page.specs.declared.fault.SourceFault.{SourceFault}
-use Rattle.page.specs.declared.fault.SourceFault.TheVariants.{OutsideData}
+use Rattle.page.specs.declared.fault.SourceFault.TheVariants.{CutRecord, OutsideData}
 use Rattle.page.specs.declared.page.Page.{Page}
 use Rattle.page.specs.declared.page.PageMetadata.{PageMetadata}
 use Rattle.strip.specs.declared.record.Record.{Record}
-use Rattle.strip.specs.declared.record.Taken.{Taken}
-use Rattle.strip.specs.declared.record.Taken.TheVariants.{End, Broken, Took}
-use Rattle.strip.specs.declared.record.Cut.{Cut}
+use Rattle.strip.specs.declared.source.Cut.{Cut}
 use Rattle.page.specs.Coming.{Coming, clean, fault, Contents, contents_of, metadata, Answer, none, some, bad}
 use Rattle.strip.specs.Strip.{Front, broken, whole, front, strip_told, then_pages, strip_pages}
 
@@ -26,14 +24,22 @@ abbrev pub first_of : List ℕ → First
 first_of [] = nothing
 first_of (kind ∷ b) = behind (front kind b) b
 
-abbrev pub taken_of : Taken → First
-taken_of End = nothing
-taken_of (Broken e) = refused e
-taken_of (Took r rest) = first r rest.now
+abbrev pub whole_of : Result (Record × Bor (List ℕ)) SourceFault → First
+whole_of (Ok t) = first t.0 t.1.now
+whole_of (Err e) = refused e
+
+abbrev pub taken_of : Result (Option (Record × Bor (List ℕ))) SourceFault → First
+taken_of (Ok None) = nothing
+taken_of (Ok (Some t)) = whole_of (Ok t)
+taken_of (Err e) = whole_of (Err e)
 
 -- the part of the data that a record names
 abbrev pub parted : List ℕ → ℕ → ℕ → Result (List ℕ) SourceFault
 parted d place n = cond (nat_lt (length d) (place + n)) (Err OutsideData) (Ok (take n (drop place d)))
+
+-- what stands behind a body of n bytes
+abbrev pub rested : List ℕ → ℕ → Result (List ℕ) SourceFault
+rested b n = cond (nat_lt (length b) n) (Err CutRecord) (Ok (drop n b))
 
 abbrev pub part_of : Result (Bor (List ℕ)) SourceFault → Result (List ℕ) SourceFault
 part_of (Ok p) = Ok p.now

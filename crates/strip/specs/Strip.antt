@@ -5,6 +5,7 @@ use Rattle.page.specs.declared.fault.SourceFault.TheVariants.{UnknownKind, CutRe
 use Rattle.page.specs.declared.fault.MakingFault.{MakingFault}
 use Rattle.page.specs.declared.fault.MakingFault.TheVariants.{StripTooLong, DataTooLong}
 use Rattle.strip.specs.declared.source.Strip.{Strip}
+use Rattle.strip.specs.declared.record.Span.{Span}
 use Rattle.strip.specs.declared.record.Record.{Record}
 use Rattle.strip.specs.declared.record.Record.TheVariants.{Dictionary, V1, V2}
 use Rattle.page.specs.Bytes.{le4}
@@ -19,17 +20,21 @@ pub data Front : Type 0 where
 abbrev pub body : ℕ → List ℕ → Record → Front
 body n b r = cond (nat_lt (length b) n) (broken CutRecord) (whole r n)
 
+-- a body begins with place and length
+abbrev pub span_of : List ℕ → Span
+span_of b = record { place = le4 b 0; length = le4 b 4 }
+
 -- place, length, count, encoding
 abbrev pub dictionary_body : List ℕ → Front
-dictionary_body b = body 13 b (Dictionary (le4 b 0) (le4 b 4) (le4 b 8) (slice_index b 12))
+dictionary_body b = body 13 b (Dictionary (span_of b) (le4 b 8) (slice_index b 12))
 
 -- place, length, levels, then the encodings of values, definition and repetition levels
 abbrev pub v1_body : List ℕ → Front
-v1_body b = body 15 b (V1 (le4 b 0) (le4 b 4) (le4 b 8) (slice_index b 12) (slice_index b 13) (slice_index b 14))
+v1_body b = body 15 b (V1 (span_of b) (le4 b 8) (slice_index b 12) (slice_index b 13) (slice_index b 14))
 
 -- place, length, levels, nulls, rows, repetition bytes, definition bytes, encoding of values
 abbrev pub v2_body : List ℕ → Front
-v2_body b = body 29 b (V2 (le4 b 0) (le4 b 4) (le4 b 8) (le4 b 12) (le4 b 16) (le4 b 20) (le4 b 24) (slice_index b 28))
+v2_body b = body 29 b (V2 (span_of b) (le4 b 8) (le4 b 12) (le4 b 16) (le4 b 20) (le4 b 24) (slice_index b 28))
 
 -- the record of a kind, with b behind its kind
 abbrev pub front : ℕ → List ℕ → Front
@@ -45,9 +50,9 @@ placed d place n make = cond (nat_lt (length d) (place + n)) (Err OutsideData) (
 
 -- the page that a record names in the data
 abbrev pub page_in : List ℕ → Record → Result Contents SourceFault
-page_in d (Dictionary place n count encoding) = placed d place n (λ bytes. dictionary place bytes count encoding)
-page_in d (V1 place n levels encoding definition repetition) = placed d place n (λ bytes. v1 place bytes levels encoding definition repetition)
-page_in d (V2 place n levels nulls rows rep-bytes def-bytes encoding) = placed d place n (λ bytes. v2 place bytes levels nulls rows rep-bytes def-bytes encoding)
+page_in d (Dictionary span count encoding) = placed d span.place span.length (λ bytes. dictionary span.place bytes count encoding)
+page_in d (V1 span levels encoding definition repetition) = placed d span.place span.length (λ bytes. v1 span.place bytes levels encoding definition repetition)
+page_in d (V2 span levels nulls rows rep-bytes def-bytes encoding) = placed d span.place span.length (λ bytes. v2 span.place bytes levels nulls rows rep-bytes def-bytes encoding)
 
 -- what a peek tells of a strip's page: levels of data pages, rows of those of version 2
 abbrev pub strip_told : Contents → Told

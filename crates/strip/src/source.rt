@@ -2,8 +2,9 @@
 ghost use Rattle.std.specs.Prelude.{◌≡◌};
 ghost use Rattle.page.specs.Coming.{made_of};
 ghost use Rattle.strip.specs.Strip.{strip_of, strip_made};
+ghost use Rattle.strip.specs.Records.{by_front, cut_of};
 
-use crate::record::{front, metadata};
+use crate::record::{metadata, page_in, take_record};
 use page::fault::{MakingFault, SourceFault};
 use page::page::{Page, PageMetadata};
 use page::reader::PageReader;
@@ -14,6 +15,13 @@ use page::reader::PageReader;
 pub struct Strip<'a> {
     records: &'a [u8],
     data: &'a [u8],
+}
+
+/// The first page of a strip, and the rest of the strip.
+#[derive(Clone, Copy)]
+struct Cut<'a> {
+    page: Page<'a>,
+    rest: &'a [u8],
 }
 
 impl<'a> Strip<'a> {
@@ -29,30 +37,37 @@ impl<'a> Strip<'a> {
         }
         Ok(Strip { records, data })
     }
+
+    /// The page in front, if one is left.
+    fn front(&self) -> Result<Option<Cut<'a>>, SourceFault>
+        ensures { strip_of self.now ≡ by_front self.now.«data».now (cut_of result) }
+    {
+        let Some((record, rest)) = take_record(self.records)? else {
+            return Ok(None);
+        };
+        let page = page_in(self.data, record)?;
+        Ok(Some(Cut { page, rest }))
+    }
 }
 
 impl<'a> PageReader<'a> for Strip<'a> {
     ghost coming = { strip_of };
 
     fn get_next_page(&mut self) -> Result<Option<Page<'a>>, SourceFault> {
-        match front(self.records, self.data)? {
-            None => Ok(None),
-            Some(cut) => {
-                self.records = cut.rest;
-                Ok(Some(cut.page))
-            }
-        }
+        let Some(Cut { page, rest }) = self.front()? else {
+            return Ok(None);
+        };
+        self.records = rest;
+        Ok(Some(page))
     }
 
     fn peek_next_page(&mut self) -> Result<Option<PageMetadata>, SourceFault> {
-        match front(self.records, self.data)? {
-            None => Ok(None),
-            Some(cut) => Ok(Some(metadata(&cut.page))),
-        }
+        let next = self.front()?;
+        Ok(next.map(|cut| metadata(&cut.page)))
     }
 
     fn skip_next_page(&mut self) -> Result<(), SourceFault> {
-        if let Some(cut) = front(self.records, self.data)? {
+        if let Some(cut) = self.front()? {
             self.records = cut.rest;
         }
         Ok(())

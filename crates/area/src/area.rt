@@ -8,8 +8,7 @@ use element::blank::Blank;
 
 /// Lent memory, of which the first `count` elements are filled. It is `there`, or tells that it is
 /// missing.
-// Kept: the memory is lent with its count beside it, since nothing here allocates; and `there` beside
-// the memory, since in an `Option` each call would take it out first, to find no room where it is missing.
+// Kept: memory is lent with its count, for nothing here allocates; in an `Option` each call would unwrap it.
 #[derive(Drop)]
 pub struct Area<'b, T> {
     pub slice: &'b mut [T],
@@ -89,7 +88,7 @@ impl<'b, T> Area<'b, T> {
 
     /// Counts `k` more elements as filled, or as many as there is room for. They were written
     /// through the part behind the count, lent on as `&mut area.slice[at..]`.
-    // Kept: of a method that lends that part on, no proof tells what the memory holds afterwards.
+    // Kept: tried, but what a method leaves that lends this part on has no proof.
     pub fn advance(&mut self, k: usize)
         ensures { self.new ≡ advanced self.old k }
     {

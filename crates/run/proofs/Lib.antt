@@ -9,3 +9,4 @@ pub mod Opens
 pub mod Parts
 pub mod Sums
 pub mod Within
+pub mod Somes

@@ -23,6 +23,10 @@ after m s = record { numbers = drop m s.numbers; end = s.end }
 abbrev pub replied : ℕ → Stream → Result ℕ StreamFault
 replied m s = cond (fails m s) (Err (record {})) (Ok (given m s))
 
+-- what a call for some of `m` numbers replies: how many come before the end or a fault, or the fault where it comes first
+abbrev pub some_of : ℕ → Stream → Result ℕ StreamFault
+some_of m s = cond (fails (min 1 m) s) (Err (record {})) (Ok (given m s))
+
 -- what is to come after the call; after a fault that is what it was
 abbrev pub rest : ℕ → Stream → Stream
 rest m s = cond (fails m s) s (after m s)

@@ -14,6 +14,7 @@ mod part;
 mod read;
 pub mod reader;
 mod repeated;
+mod some;
 mod steps;
 pub mod theorems;
 mod word;

@@ -1,3 +1,4 @@
 pub mod Bits
 pub mod Cuts
+pub mod Encodings
 pub mod Faults

@@ -4,14 +4,9 @@ ghost use Rattle.std.specs.Prelude.{◌≡◌, ◌≤◌, length};
 ghost use Rattle.stream.specs.Packing.{le};
 ghost use Rattle.level_bytes.specs.Cuts.{front, by_length, packed_bytes, v1_level, v2_levels, cut_of, parts_of};
 
+use crate::encoding::LevelEncoding;
 use crate::fault::LevelFault;
 use crate::width::level_width;
-
-/// The levels' encoding of runs and packed groups, behind their length.
-const RLE: u8 = 3;
-
-/// The levels' encoding of packed levels alone.
-const BIT_PACKED: u8 = 4;
 
 /// The first number of a length that is negative.
 const NEGATIVE: u32 = 0x8000_0000;
@@ -32,10 +27,11 @@ pub fn parse_v1_level<'a>(
     if max_level <= 0 {
         return cut_front(bytes, 0);
     }
-    match encoding {
-        RLE => cut_told(bytes),
-        BIT_PACKED => cut_front(bytes, packed_len(num_levels, level_width(max_level))),
-        _ => Err(LevelFault::UnknownEncoding(encoding)),
+    match LevelEncoding::try_from(encoding)? {
+        LevelEncoding::Rle => cut_told(bytes),
+        LevelEncoding::BitPacked => {
+            cut_front(bytes, packed_len(num_levels, level_width(max_level)))
+        }
     }
 }
 

@@ -2,5 +2,6 @@
 #![tactic(auto)]
 
 pub mod cut;
+pub mod encoding;
 pub mod fault;
 pub mod width;

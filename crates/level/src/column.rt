@@ -3,7 +3,7 @@
 ghost use Rattle.std.specs.Prelude.{◌≡◌, ℕ, Bool, false, List};
 ghost use Rattle.stream.specs.Streams.{Stream, ended, clean};
 ghost use Rattle.level_bytes.specs.Cuts.{above_zero};
-ghost use Rattle.level.specs.declared.encoding.LevelEncoding.{LevelEncoding as Encoding};
+ghost use Rattle.level_bytes.specs.declared.encoding.LevelEncoding.{LevelEncoding as Encoding};
 
 use crate::encoding::LevelEncoding;
 

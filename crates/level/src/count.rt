@@ -21,18 +21,13 @@ pub(crate) fn def_course(reader: RunReader<'_>, max: u32, m: usize) -> Result<Co
         let size = (m - taken).min(1024);
         let k = ahead.read_some(&mut block[..size])?;
         if k == 0 {
-            return Ok(Course {
-                full: false,
-                taken,
-                told,
-                opened: false,
-            });
+            break;
         }
         taken += k;
         told += count_equal(&block[..k], max);
     }
     Ok(Course {
-        full: true,
+        full: taken == m,
         taken,
         told,
         opened: false,

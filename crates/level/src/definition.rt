@@ -5,7 +5,8 @@ ghost use Rattle.level_bytes.specs.Cuts.{above_zero};
 ghost use Rattle.run.specs.Coming.{to_come};
 ghost use Rattle.area.specs.Areas.{room};
 ghost use Rattle.level.specs.Levels.{levels};
-ghost use Rattle.level.specs.Courses.{def_course, reply, left, area_after};
+ghost use Rattle.level.specs.Columns.{def_call, after_call};
+ghost use Rattle.level.specs.Courses.{reply, area_after};
 
 use crate::column::ColumnLevelDecoder;
 use crate::count::def_course;
@@ -31,16 +32,14 @@ pub trait DefinitionLevelDecoder<'a>: ColumnLevelDecoder<'a> {
         out: &mut Area<'_, Self::Level>,
         num_levels: usize,
     ) -> Result<(usize, usize), LevelRefusal>
-        ensures told { result ≡ reply (room out.old) (def_course (Self.maximum self.old) num_levels (Self.stream self.old)) }
-        ensures comes { Self.stream self.new ≡ left (room out.old) (def_course (Self.maximum self.old) num_levels (Self.stream self.old)) (Self.stream self.old) }
-        ensures holds { out.new ≡ area_after Self.Level.Number.from Self.Level.Blank.blank_is (def_course (Self.maximum self.old) num_levels (Self.stream self.old)) (Self.stream self.old) out.old }
-        ensures top { Self.maximum self.new ≡ Self.maximum self.old };
+        ensures told { result ≡ reply (room out.old) (def_call num_levels (Self.column self.old)) }
+        ensures stands { Self.column self.new ≡ after_call (room out.old) (def_call num_levels (Self.column self.old)) (Self.column self.old) }
+        ensures holds { out.new ≡ area_after Self.Level.Number.from Self.Level.Blank.blank_is (def_call num_levels (Self.column self.old)) (Self.column self.old).levels out.old };
 
     /// Takes levels as `read_def_levels` does, and leaves them out.
     fn skip_def_levels(&mut self, num_levels: usize) -> Result<(usize, usize), LevelRefusal>
-        ensures told { result ≡ reply num_levels (def_course (Self.maximum self.old) num_levels (Self.stream self.old)) }
-        ensures comes { Self.stream self.new ≡ left num_levels (def_course (Self.maximum self.old) num_levels (Self.stream self.old)) (Self.stream self.old) }
-        ensures top { Self.maximum self.new ≡ Self.maximum self.old };
+        ensures told { result ≡ reply num_levels (def_call num_levels (Self.column self.old)) }
+        ensures stands { Self.column self.new ≡ after_call num_levels (def_call num_levels (Self.column self.old)) (Self.column self.old) };
 }
 
 /// A kind of level that decoders tell.
@@ -76,11 +75,7 @@ impl<'a, L: LevelKind> ColumnLevelDecoder<'a> for DefinitionLevelDecoderImpl<'a,
 
     ghost mask = { L.fills_mask };
 
-    ghost stream = { λ s. to_come s.reader };
-
-    ghost opened = { λ _. false };
-
-    ghost maximum = { λ s. above_zero s.max_level };
+    ghost column = { λ s. record { maximum = above_zero s.max_level; levels = to_come s.reader; opened = false } };
 
     fn new(max_level: i16) -> DefinitionLevelDecoderImpl<'a, L> {
         DefinitionLevelDecoderImpl {

@@ -16,4 +16,4 @@ pub mod repetition;
 pub mod source;
 mod take;
 pub mod theorems;
-pub mod walk;
+mod walk;

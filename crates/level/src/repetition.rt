@@ -4,8 +4,8 @@ ghost use Rattle.std.specs.Prelude.{◌≡◌, false, pos};
 ghost use Rattle.level_bytes.specs.Cuts.{above_zero};
 ghost use Rattle.area.specs.Areas.{room};
 ghost use Rattle.level.specs.Levels.{levels, level};
-ghost use Rattle.level.specs.Courses.{reply, left, open_after, area_after};
-ghost use Rattle.level.specs.Records.{rep_course};
+ghost use Rattle.level.specs.Columns.{rep_call, after_call};
+ghost use Rattle.level.specs.Courses.{reply, area_after};
 
 use crate::asked::Asked;
 use crate::column::ColumnLevelDecoder;
@@ -26,11 +26,9 @@ pub trait RepetitionLevelDecoder<'a>: ColumnLevelDecoder<'a> {
         num_records: usize,
         num_levels: usize,
     ) -> Result<(usize, usize), LevelRefusal>
-        ensures told { result ≡ reply (room out.old) (rep_course (Self.opened self.old) num_records num_levels (Self.stream self.old)) }
-        ensures comes { Self.stream self.new ≡ left (room out.old) (rep_course (Self.opened self.old) num_records num_levels (Self.stream self.old)) (Self.stream self.old) }
-        ensures closed { Self.opened self.new ≡ open_after (room out.old) (rep_course (Self.opened self.old) num_records num_levels (Self.stream self.old)) }
-        ensures holds { out.new ≡ area_after level (pos 0) (rep_course (Self.opened self.old) num_records num_levels (Self.stream self.old)) (Self.stream self.old) out.old }
-        ensures top { Self.maximum self.new ≡ Self.maximum self.old };
+        ensures told { result ≡ reply (room out.old) (rep_call num_records num_levels (Self.column self.old)) }
+        ensures stands { Self.column self.new ≡ after_call (room out.old) (rep_call num_records num_levels (Self.column self.old)) (Self.column self.old) }
+        ensures holds { out.new ≡ area_after level (pos 0) (rep_call num_records num_levels (Self.column self.old)) (Self.column self.old).levels out.old };
 
     /// Takes levels as `read_rep_levels` does, and leaves them out.
     fn skip_rep_levels(
@@ -38,17 +36,13 @@ pub trait RepetitionLevelDecoder<'a>: ColumnLevelDecoder<'a> {
         num_records: usize,
         num_levels: usize,
     ) -> Result<(usize, usize), LevelRefusal>
-        ensures told { result ≡ reply num_levels (rep_course (Self.opened self.old) num_records num_levels (Self.stream self.old)) }
-        ensures comes { Self.stream self.new ≡ left num_levels (rep_course (Self.opened self.old) num_records num_levels (Self.stream self.old)) (Self.stream self.old) }
-        ensures closed { Self.opened self.new ≡ open_after num_levels (rep_course (Self.opened self.old) num_records num_levels (Self.stream self.old)) }
-        ensures top { Self.maximum self.new ≡ Self.maximum self.old };
+        ensures told { result ≡ reply num_levels (rep_call num_records num_levels (Self.column self.old)) }
+        ensures stands { Self.column self.new ≡ after_call num_levels (rep_call num_records num_levels (Self.column self.old)) (Self.column self.old) };
 
     /// Closes an open record, and tells whether one was open.
     fn flush_partial(&mut self) -> bool
-        ensures told { result ≡ Self.opened self.old }
-        ensures closed { Self.opened self.new ≡ false }
-        ensures comes { Self.stream self.new ≡ Self.stream self.old }
-        ensures top { Self.maximum self.new ≡ Self.maximum self.old };
+        ensures told { result ≡ (Self.column self.old).opened }
+        ensures stands { Self.column self.new ≡ record (Self.column self.old) { opened = false } };
 }
 
 /// A decoder of repetition levels from a source.
@@ -67,11 +61,7 @@ impl<'a, S: LevelSource<'a> + Drop> ColumnLevelDecoder<'a> for RepetitionDecoder
 
     ghost mask = { false };
 
-    ghost stream = { λ s. S.stream s.source };
-
-    ghost opened = { λ s. s.partial };
-
-    ghost maximum = { λ s. above_zero s.max_level };
+    ghost column = { λ s. record { maximum = above_zero s.max_level; levels = S.stream s.source; opened = s.partial } };
 
     fn new(max_level: i16) -> RepetitionDecoder<S> {
         RepetitionDecoder {

@@ -1,60 +1,84 @@
--- Laws of blocks of levels.
-use Rattle.std.proofs.Common.{◌≡◌, ℕ, ◌+◌, ◌-◌, ◌<◌, ◌≤◌, Bool, true, false, ◌&&◌, ltb, List, [], map, length, take, drop, Ok, Err, Result, sym, refl, ap, ◌∙◌, inl, inr, arith}
-use Rattle.std.proofs.lemmas.List.{drop_all, take_at, length-take, length-drop, nil_from_length}
-use Rattle.std.proofs.lemmas.Bool.{ltb-true, ltb-false, and_parts, cases_Bool, cond-true, cond-false}
+-- Laws of streams, and of blocks that are read.
+use Rattle.std.proofs.Common.{◌≡◌, ℕ, ◌+◌, ◌<◌, ◌≤◌, min, true, false, ltb, List, [], ◌++◌, map, length, take, drop, Ok, Err, Result, sym, refl, ap, ◌∙◌, inl, inr, arith}
+use Rattle.std.proofs.lemmas.List.{append_assoc, append-nil, drop_all, drop-drop, take_all, take_at, map-id, length-map, length-take, nil_from_length}
+use Rattle.std.proofs.lemmas.Bool.{ltb-true, le-ltb, lt-ltb, and_parts, and_from, and_left, and_right, cases_Bool, cases_lt, cond-true, cond-false}
 use Rattle.stream.specs.Streams.{Stream, End, ended, clean, fault}
 use Rattle.run.specs.declared.kind.StreamFault.{StreamFault}
-use Rattle.run.specs.Reading.{is_fault, fails, given, after, rest, filled, replied}
-use Rattle.level.proofs.Counts.{ok_fails, err_fails, map_same}
-use Rattle.level.proofs.Taking.{after_after}
+use Rattle.run.specs.Reading.{is_fault, fails, given, after, rest, filled, some_of}
 
 fault_is : (e : End) → is_fault e ≡ true → e ≡ fault
-fault_is clean h = (let u : ◌≡◌ {A = ℕ} 0 1 = cc in absurd (omega arith))
+fault_is clean h = cc
 fault_is fault h = refl
 
--- a fault comes before there are `m` levels
-module _ (m : ℕ) (s : Stream) (h : fails m s ≡ true) where
-  pub fails_few : length s.numbers < m
-  fails_few = ltb-true (length s.numbers) m (and_parts (ltb (length s.numbers) m) (is_fault s.end) h).0
-
-  pub fails_end : s.end ≡ fault
-  fails_end = fault_is s.end (and_parts (ltb (length s.numbers) m) (is_fault s.end) h).1
+clean_is : (e : End) → is_fault e ≡ false → e ≡ clean
+clean_is clean h = refl
+clean_is fault h = cc
 
 pub ended_by : (s : Stream) (e : End) → s.numbers ≡ [] → s.end ≡ e → s ≡ ended e
 ended_by s e p q = ap (λ (xs : List ℕ). record { numbers = xs; end = s.end }) p ∙ ap (λ (x : End). record { numbers = []; end = x }) q
 
--- one level more was passed
-pub passed_more : (k : ℕ) (s t u : Stream) (x : ℕ) → t ≡ after k s → k ≤ length s.numbers → s.end ≡ fault → ◌≡◌ {A = Result ℕ StreamFault} (Ok x) (replied 1 t) → u ≡ rest 1 t
-    → (u ≡ after (k + 1) s) × (k + 1 ≤ length s.numbers)
-passed_more k s t u x e h f o r =
-    let a : fails 1 t ≡ false = ok_fails 1 t x o in
-    let l : length t.numbers ≡ length s.numbers - k = ap (λ z. length z.numbers) e ∙ length-drop k s.numbers in
-    let few : k + 1 ≤ length s.numbers = elim (cases_Bool (ltb (length t.numbers) 1)) [
-      | inl y ↦ (let z : ◌≡◌ {A = Bool} true false = sym (ap (λ b. b && is_fault t.end) y ∙ ap is_fault (ap (λ v. v.end) e ∙ f)) ∙ a in let v : ◌≡◌ {A = ℕ} 0 1 = cc in absurd (omega arith))
-      | inr n ↦ omega (arith, l, ltb-false (length t.numbers) 1 n)
-    ] in
-    (r ∙ (cond-false (fails 1 t) t (after 1 t) a ∙ (ap (after 1) e ∙ after_after k 1 s)), few)
+pub there_fails : (n : ℕ) (s : Stream) → n ≤ length s.numbers → fails n s ≡ false
+there_fails n s h = and_left (ltb (length s.numbers) n) (is_fault s.end) (le-ltb (length s.numbers) n h)
 
--- the fault is next
-pub passed_all : (k : ℕ) (s t u : Stream) (x : StreamFault) → t ≡ after k s → k ≤ length s.numbers → s.end ≡ fault → ◌≡◌ {A = Result ℕ StreamFault} (Err x) (replied 1 t) → u ≡ rest 1 t
-    → (k ≡ length s.numbers) × (u ≡ ended fault)
-passed_all k s t u x e h f o r =
-    let a : fails 1 t ≡ true = err_fails 1 t x o in
-    let few = fails_few 1 t a in
-    let l : length t.numbers ≡ length s.numbers - k = ap (λ z. length z.numbers) e ∙ length-drop k s.numbers in
-    (omega (arith, l, few), r ∙ (cond-true (fails 1 t) t (after 1 t) a ∙ ended_by t fault (nil_from_length t.numbers (omega (arith, few))) (fails_end 1 t a)))
+pub fault_fails : (n : ℕ) (s : Stream) → length s.numbers < n → s.end ≡ fault → fails n s ≡ true
+fault_fails n s h e = and_from (ltb (length s.numbers) n) (is_fault s.end) (lt-ltb (length s.numbers) n h) (ap is_fault e)
 
--- what a block holds
-module _ (s : Stream) (o p : List ℕ) (e : p ≡ filled (λ x. x) s o) where
-  pub block_holds : take (given (length o) s) p ≡ take (length o) s.numbers
-  block_holds =
-      let ys = take (length o) s.numbers in
-      let l : length (map (λ x. x) ys) ≡ given (length o) s = ap length (map_same ys) ∙ length-take (length o) s.numbers in
-      ap (take (given (length o) s)) e ∙ (take_at (map (λ x. x) ys) (drop (length s.numbers) o) (given (length o) s) l ∙ map_same ys)
+pub clean_fails : (n : ℕ) (s : Stream) → s.end ≡ clean → fails n s ≡ false
+clean_fails n s e = and_right (ltb (length s.numbers) n) (is_fault s.end) (ap is_fault e)
 
--- where a fault comes first, the numbers before it are all that there are
-pub fault_given : (m : ℕ) (s : Stream) → fails m s ≡ true → length s.numbers ≡ given m s
-fault_given m s h = let k = fails_few m s h in omega (arith, k)
+pub there_rest : (n : ℕ) (s : Stream) → n ≤ length s.numbers → rest n s ≡ after n s
+there_rest n s h = cond-false (fails n s) s (after n s) (there_fails n s h)
 
-pub fault_after : (m : ℕ) (s : Stream) → fails m s ≡ true → ended fault ≡ after m s
-fault_after m s h = let k = fails_few m s h in sym (ended_by (after m s) fault (drop_all m s.numbers (omega (arith, k))) (fails_end m s h))
+pub there_filled : {X : Type 0} (f : ℕ → X) (s : Stream) (o : List X) → length o ≤ length s.numbers → filled f s o ≡ map f (take (length o) s.numbers)
+there_filled f s o h = ap (λ z. map f (take (length o) s.numbers) ++ z) (drop_all (length s.numbers) o h) ∙ append-nil (map f (take (length o) s.numbers))
+
+pub after_after : (n m : ℕ) (s : Stream) → after m (after n s) ≡ after (n + m) s
+after_after n m s = ap (λ (xs : List ℕ). record { numbers = xs; end = s.end }) (drop-drop m n s.numbers)
+
+-- as far as there are levels
+pub given_after : (m : ℕ) (s : Stream) → after m s ≡ after (given m s) s
+given_after m s = ap (λ (xs : List ℕ). record { numbers = xs; end = s.end }) (elim (cases_lt (length s.numbers) m) [
+  | inl k ↦ drop_all m s.numbers (omega arith) ∙ sym (drop_all (given m s) s.numbers (omega arith))
+  | inr k ↦ (let z : m ≡ given m s = omega arith in ap (λ (j : ℕ). drop j s.numbers) z)
+])
+
+given_take : (m : ℕ) (s : Stream) → take m s.numbers ≡ take (given m s) s.numbers
+given_take m s = elim (cases_lt (length s.numbers) m) [
+  | inl k ↦ take_all m s.numbers (omega arith) ∙ sym (take_all (given m s) s.numbers (omega arith))
+  | inr k ↦ (let z : m ≡ given m s = omega arith in ap (λ (j : ℕ). take j s.numbers) z)
+]
+
+pub read_comes : (m k t : ℕ) (s u v : Stream) → k ≡ given m u → u ≡ after t s → v ≡ after m u → v ≡ after (t + k) s
+read_comes m k t s u v h e d = d ∙ (given_after m u ∙ (ap (λ (j : ℕ). after j u) (sym h) ∙ (ap (after k) e ∙ after_after t k s)))
+
+-- what a call for some levels replied
+module _ (m : ℕ) (s : Stream) where
+  pub some_given : (k : ℕ) → ◌≡◌ {A = Result ℕ StreamFault} (Ok k) (some_of m s) → k ≡ given m s
+  some_given k e = elim (cases_Bool (fails (min 1 m) s)) [
+    | inl t ↦ (let p : ◌≡◌ {A = Result ℕ StreamFault} (Ok k) (Err (record {})) = e ∙ cond-true (fails (min 1 m) s) _ _ t in cc)
+    | inr f ↦ (let p : ◌≡◌ {A = Result ℕ StreamFault} (Ok k) (Ok (given m s)) = e ∙ cond-false (fails (min 1 m) s) _ _ f in cc)
+  ]
+
+  pub some_clean : ◌≡◌ {A = Result ℕ StreamFault} (Ok 0) (some_of m s) → 0 < m → s ≡ ended clean
+  some_clean e h =
+      let n = some_given 0 e in
+      elim (cases_Bool (is_fault s.end)) [
+        | inl t ↦ (let p : ◌≡◌ {A = Result ℕ StreamFault} (Ok 0) (Err (record {})) = e ∙ cond-true (fails (min 1 m) s) _ _ (and_from (ltb (length s.numbers) (min 1 m)) (is_fault s.end) (lt-ltb (length s.numbers) (min 1 m) (omega arith)) t) in cc)
+        | inr f ↦ ended_by s clean (nil_from_length s.numbers (omega arith)) (clean_is s.end f)
+      ]
+
+  pub some_fault : (x : StreamFault) → ◌≡◌ {A = Result ℕ StreamFault} (Err x) (some_of m s) → s ≡ ended fault
+  some_fault x e = elim (cases_Bool (fails (min 1 m) s)) [
+    | inl t ↦ (let p = and_parts (ltb (length s.numbers) (min 1 m)) (is_fault s.end) t in
+        ended_by s fault (nil_from_length s.numbers (omega (arith, ltb-true (length s.numbers) (min 1 m) p.0))) (fault_is s.end p.1))
+    | inr f ↦ (let p : ◌≡◌ {A = Result ℕ StreamFault} (Err x) (Ok (given m s)) = e ∙ cond-false (fails (min 1 m) s) _ _ f in cc)
+  ]
+
+-- what a block holds then
+pub block_holds : (k : ℕ) (s : Stream) (o p r : List ℕ) → k ≡ given (length o) s → p ≡ filled (λ x. x) s o → take k (p ++ r) ≡ take k s.numbers
+block_holds k s o p r h e =
+    let xs : List ℕ = map (λ x. x) (take (length o) s.numbers) in
+    let l : length xs ≡ k = simp (length-map, length-take) (omega arith) in
+    ap (λ z. take k (z ++ r)) e
+    ∙ (ap (take k) (append_assoc xs (drop (length s.numbers) o) r)
+    ∙ (take_at xs (drop (length s.numbers) o ++ r) k l ∙ (map-id (take (length o) s.numbers) ∙ (given_take (length o) s ∙ ap (λ (j : ℕ). take j s.numbers) (sym h)))))

@@ -1,7 +1,5 @@
+pub mod Walks
+pub mod Blocks
+pub mod Stands
 pub mod Aheads
 pub mod Alike
-pub mod Blocks
-pub mod Counts
-pub mod Stands
-pub mod Taking
-pub mod Walks

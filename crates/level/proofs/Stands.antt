@@ -1,196 +1,179 @@
 -- Laws of a call for records, a block at a time.
-use Rattle.std.proofs.Common.{◌≡◌, ℕ, ◌+◌, ◌-◌, ◌<◌, ◌≤◌, Bool, true, false, not, ◌&&◌, ◌||◌, eqb, ltb, List, [], ◌++◌, length, take, drop, sym, refl, ap, ◌∙◌, arith}
+use Rattle.std.proofs.Common.{◌≡◌, ℕ, ◌+◌, ◌-◌, ◌<◌, ◌≤◌, Bool, true, false, not, ◌&&◌, ◌||◌, eqb, List, [], ◌++◌, length, take, drop, Ok, Result, sym, refl, ap, subst, ◌∙◌, arith}
+use Rattle.std.proofs.Math.Seq.{take-add}
 use Rattle.std.proofs.lemmas.List.{take_all, length-take, length-drop}
-use Rattle.std.proofs.lemmas.Bool.{lt-ltb, eq-eqb, and_from, and_right, cond-true, cond-false, cond_both, ne_eqb}
+use Rattle.std.proofs.lemmas.Bool.{eq-eqb, cond-true, cond-false, ne_eqb}
 use Rattle.stream.specs.Streams.{Stream, ended, clean, fault}
-use Rattle.run.specs.Reading.{is_fault, fails, after}
+use Rattle.run.specs.declared.kind.StreamFault.{StreamFault}
+use Rattle.run.specs.Reading.{fails, given, after, filled, some_of}
+use Rattle.level.specs.declared.asked.Asked.{Asked}
 use Rattle.level.specs.declared.walk.Walk.{Walk}
 use Rattle.level.specs.declared.course.Course.{Course}
 use Rattle.level.specs.Courses.{broken}
-use Rattle.level.specs.Records.{joined, none, walk, by_walk, asked, rep_course}
-use Rattle.level.proofs.Blocks.{fails_few, fails_end}
-use Rattle.level.proofs.Counts.{take_both}
-use Rattle.level.proofs.Taking.{there_fails, after_after}
-use Rattle.level.proofs.Walks.{so_far, same_walk, joined_none, joined_assoc, walk_few, walk_length, walk_whole, walk_stopped, walk_on}
-
--- what a walk makes of a call
-abbrev pub found : Walk → Bool → Course
-found w f = record { faulty = false; full = f; taken = w.taken; told = w.closed; opened = w.opened }
+use Rattle.level.specs.Records.{joined, none, walk, found, by_walk, course_of}
+use Rattle.level.proofs.Blocks.{some_given, block_holds, there_fails, fault_fails, clean_fails, after_after}
+use Rattle.level.proofs.Walks.{so_far, same_walk, joined_none, joined_assoc, walk_few, walk_most, walk_length, walk_whole, walk_stopped, walk_on}
 
 module _ (w : Walk) (m : ℕ) (s : Stream) where
-  pub by_stop : w.stopped ≡ true → by_walk w m s ≡ found w true
+  by_stop : w.stopped ≡ true → by_walk w m s ≡ Ok (found w true)
   by_stop e =
       cond-false (not w.stopped && fails m s) broken _ (ap (λ b. not b && fails m s) e)
-      ∙ ap (λ (b : Bool). found w (b || eqb w.taken m)) e
+      ∙ ap (λ (b : Bool). Ok (found w (b || eqb w.taken m))) e
 
-  pub by_bad : w.stopped ≡ false → fails m s ≡ true → by_walk w m s ≡ broken
+  by_bad : w.stopped ≡ false → fails m s ≡ true → by_walk w m s ≡ broken
   by_bad e f = cond-true (not w.stopped && fails m s) broken _ (ap (λ b. not b && fails m s) e ∙ f)
 
-  pub by_good : w.stopped ≡ false → fails m s ≡ false → by_walk w m s ≡ found w (eqb w.taken m)
+  by_good : w.stopped ≡ false → fails m s ≡ false → by_walk w m s ≡ Ok (found w (eqb w.taken m))
   by_good e f =
       cond-false (not w.stopped && fails m s) broken _ (ap (λ b. not b && fails m s) e ∙ f)
-      ∙ ap (λ (b : Bool). found w (b || eqb w.taken m)) e
+      ∙ ap (λ (b : Bool). Ok (found w (b || eqb w.taken m))) e
 
--- A call stands behind `t` levels, with `c` records closed; `u` is to come.
-pub record Stands (o : Bool) (q m : ℕ) (s : Stream) (t c : ℕ) (p : Bool) (u : Stream) : Type 0 where
-  pub walked : walk o q (take m s.numbers) ≡ joined (so_far t c p) (walk p (q - c) (take (m - t) u.numbers))
-  pub comes : u ≡ after t s
-  pub there : t ≤ length s.numbers
-  pub most : t ≤ m
-  pub few : c < q
+-- A call for records stands behind the walk `w`, and `u` is to come.
+pub record Stands (a : Asked) (s : Stream) (w : Walk) (u : Stream) : Type 0 where
+  pub walked : walk a.opened a.records (take a.levels s.numbers) ≡ joined w (walk w.opened (a.records - w.closed) (take (a.levels - w.taken) u.numbers))
+  pub comes : u ≡ after w.taken s
+  pub there : w.taken ≤ length s.numbers
+  pub levels : w.taken ≤ a.levels
+  pub records : w.closed ≤ a.records
+  pub some : w.taken < a.levels → w.closed < a.records
 
-pub stands_none : (o : Bool) (q m : ℕ) (s : Stream) → 0 < q → Stands o q m s 0 0 o s
-stands_none o q m s h =
-    let a : q ≡ q - 0 = omega arith in
-    let b : m ≡ m - 0 = omega arith in
+-- the next `n` levels, of `u`, are walked over
+pub record Next (a : Asked) (w : Walk) (u : Stream) (n : ℕ) (next : Walk) : Type 0 where
+  pub some : w.taken < a.levels
+  pub levels : n ≤ a.levels - w.taken
+  pub there : n ≤ length u.numbers
+  pub walked : next ≡ walk w.opened (a.records - w.closed) (take n u.numbers)
+
+pub stands_none : (a : Asked) (s : Stream) → Stands a s (none a.opened) s
+stands_none a s =
+    let q : a.records ≡ a.records - 0 = omega arith in
+    let m : a.levels ≡ a.levels - 0 = omega arith in
     record {
-      walked = sym (joined_none o (walk o q (take m s.numbers))) ∙ (ap (λ (j : ℕ). joined (none o) (walk o j (take m s.numbers))) a ∙ ap (λ (j : ℕ). joined (none o) (walk o (q - 0) (take j s.numbers))) b);
+      walked = sym (joined_none a.opened (walk a.opened a.records (take a.levels s.numbers)))
+          ∙ (ap (λ (j : ℕ). joined (none a.opened) (walk a.opened j (take a.levels s.numbers))) q ∙ ap (λ (j : ℕ). joined (none a.opened) (walk a.opened (a.records - 0) (take j s.numbers))) m);
       comes = refl;
       there = omega arith;
-      most = omega arith;
-      few = h;
+      levels = omega arith;
+      records = omega arith;
+      some = a.some;
     }
 
--- the next `n` levels are walked over
-module _ (o : Bool) (q m : ℕ) (s : Stream) (t c : ℕ) (p : Bool) (u : Stream) (a : Stands o q m s t c p u) (n : ℕ) (w : Walk) (h : n ≤ m - t) (e : w ≡ walk p (q - c) (take n u.numbers)) where
-  left_is : length u.numbers ≡ length s.numbers - t
-  left_is = ap (λ z. length z.numbers) a.comes ∙ length-drop t s.numbers
+module _ (a : Asked) (s : Stream) (w : Walk) (u : Stream) (z : Stands a s w u) where
+  left_is : length u.numbers ≡ length s.numbers - w.taken
+  left_is = ap (λ t. length t.numbers) z.comes ∙ length-drop w.taken s.numbers
 
-  end_is : u.end ≡ s.end
-  end_is = ap (λ z. z.end) a.comes
+  end_is : s.end ≡ u.end
+  end_is = sym (ap (λ t. t.end) z.comes)
 
-  block_then : take (m - t) u.numbers ≡ take n u.numbers ++ take ((m - t) - n) (drop n u.numbers)
-  block_then = let k : m - t ≡ n + ((m - t) - n) = omega arith in ap (λ (j : ℕ). take j u.numbers) k ∙ take_both n ((m - t) - n) u.numbers
-
-  stands_end : take (m - t) u.numbers ≡ take n u.numbers → walk o q (take m s.numbers) ≡ joined (so_far t c p) w
-  stands_end k = a.walked ∙ (ap (λ z. joined (so_far t c p) (walk p (q - c) z)) k ∙ ap (joined (so_far t c p)) (sym e))
-
-  -- they close the last record
-  pub stands_stop : w.stopped ≡ true → by_walk (walk o q (take m s.numbers)) m s ≡ found (joined (so_far t c p) w) true
-  stands_stop k =
-      let b : (walk p (q - c) (take n u.numbers)).stopped ≡ true = sym (ap (λ z. z.stopped) e) ∙ k in
-      let j : walk o q (take m s.numbers) ≡ joined (so_far t c p) w =
-      a.walked ∙ (ap (λ z. joined (so_far t c p) (walk p (q - c) z)) block_then
-      ∙ (ap (joined (so_far t c p)) (walk_stopped p (q - c) (take n u.numbers) (take ((m - t) - n) (drop n u.numbers)) b) ∙ ap (joined (so_far t c p)) (sym e))) in
-      ap (λ (z : Walk). by_walk z m s) j ∙ by_stop (joined (so_far t c p) w) m s k
-
-  few_left : length u.numbers < n → take (m - t) u.numbers ≡ take n u.numbers
-  few_left k = take_all (m - t) u.numbers (omega arith) ∙ sym (take_all n u.numbers (omega arith))
-
-  -- a fault stands behind them
-  pub stands_bad : w.stopped ≡ false → fails n u ≡ true → by_walk (walk o q (take m s.numbers)) m s ≡ broken
-  stands_bad k f =
-      let l = fails_few n u f in
-      let g : fails m s ≡ true = and_from (ltb (length s.numbers) m) (is_fault s.end) (lt-ltb (length s.numbers) m (omega (arith, left_is, l, a.there))) (ap is_fault (sym end_is ∙ fails_end n u f)) in
-      ap (λ (z : Walk). by_walk z m s) (stands_end (few_left l)) ∙ by_bad (joined (so_far t c p) w) m s k g
-
-  clean_end : fails n u ≡ false → length u.numbers < n → fails m s ≡ false
-  clean_end f l =
-      let g : is_fault u.end ≡ false = sym (ap (λ b. b && is_fault u.end) (lt-ltb (length u.numbers) n l)) ∙ f in
-      and_right (ltb (length s.numbers) m) (is_fault s.end) (ap is_fault (sym end_is) ∙ g)
-
-  -- a clean end stands behind them
-  pub stands_clean : w.stopped ≡ false → fails n u ≡ false → length u.numbers < n → by_walk (walk o q (take m s.numbers)) m s ≡ found (joined (so_far t c p) w) (eqb (t + w.taken) m)
-  stands_clean k f l = ap (λ (z : Walk). by_walk z m s) (stands_end (few_left l)) ∙ by_good (joined (so_far t c p) w) m s k (clean_end f l)
-
-  whole : w.stopped ≡ false → n ≤ length u.numbers → w.taken ≡ n
-  whole k l =
-      let x : (walk p (q - c) (take n u.numbers)).taken ≡ length (take n u.numbers) = walk_whole p (q - c) (take n u.numbers) (sym (ap (λ z. z.stopped) e) ∙ k) in
-      ap (λ z. z.taken) e ∙ (x ∙ (length-take n u.numbers ∙ omega arith))
-
-  pub stands_taken : w.stopped ≡ false → n ≤ length u.numbers → w.taken ≡ n
-  stands_taken = whole
-
-  -- they are all that was asked for
-  pub stands_full : w.stopped ≡ false → n ≤ length u.numbers → t + w.taken ≡ m → by_walk (walk o q (take m s.numbers)) m s ≡ found (joined (so_far t c p) w) true
-  stands_full k l f =
-      let x = whole k l in
-      let y : m - t ≡ n = omega (arith, x, f) in
-      ap (λ (z : Walk). by_walk z m s) (stands_end (ap (λ (j : ℕ). take j u.numbers) y))
-      ∙ (by_good (joined (so_far t c p) w) m s k (there_fails m s (omega (arith, left_is, x, f, a.there, l))) ∙ ap (λ (b : Bool). found (joined (so_far t c p) w) b) (eq-eqb (t + w.taken) m f))
-
-  -- they are not, and more are to come
-  pub stands_more : (v : Stream) → w.stopped ≡ false → n ≤ length u.numbers → v ≡ after n u → Stands o q m s (t + w.taken) (c + w.closed) w.opened v
-  stands_more v k l f =
-      let x = whole k l in
-      let b : (walk p (q - c) (take n u.numbers)).stopped ≡ false = sym (ap (λ z. z.stopped) e) ∙ k in
-      let ys = take ((m - t) - n) (drop n u.numbers) in
-      let d : (q - c) - w.closed ≡ q - (c + w.closed) = omega arith in
-      let g : (m - t) - n ≡ m - (t + w.taken) = omega (arith, x) in
-      let r : w.closed < q - c = (let z = walk_few p (q - c) (take n u.numbers) (omega (arith, a.few)) b in omega (arith, z, ap (λ y. y.closed) e)) in
-      record {
-        walked = a.walked ∙ (ap (λ z. joined (so_far t c p) (walk p (q - c) z)) block_then
-            ∙ (ap (joined (so_far t c p)) (walk_on p (q - c) (take n u.numbers) ys b ∙ ap (λ (z : Walk). joined z (walk z.opened ((q - c) - z.closed) ys)) (sym e))
-            ∙ (joined_assoc (so_far t c p) w (walk w.opened ((q - c) - w.closed) ys)
-            ∙ (ap (λ (j : ℕ). joined (joined (so_far t c p) w) (walk w.opened j ys)) d
-            ∙ (ap (λ (z : Bool). joined (record { taken = t + w.taken; closed = c + w.closed; opened = w.opened; stopped = z }) (walk w.opened (q - (c + w.closed)) ys)) k
-            ∙ (ap (λ (j : ℕ). joined (so_far (t + w.taken) (c + w.closed) w.opened) (walk w.opened (q - (c + w.closed)) (take j (drop n u.numbers)))) g
-            ∙ ap (λ (z : Stream). joined (so_far (t + w.taken) (c + w.closed) w.opened) (walk w.opened (q - (c + w.closed)) (take (m - (t + w.taken)) z.numbers))) (sym f)))))));
-        comes = f ∙ (ap (after n) a.comes ∙ (after_after t n s ∙ ap (λ (j : ℕ). after (t + j) s) (sym x)));
-        there = omega (arith, left_is, x, a.there, l);
-        most = omega (arith, x, a.most);
-        few = omega (arith, r, a.few);
-      }
-
--- a call for no record
-pub rep_none : (o : Bool) (q m : ℕ) (s : Stream) → q ≡ 0 → record { faulty = false; full = true; taken = 0; told = 0; opened = o } ≡ rep_course o q m s
-rep_none o q m s h = sym (ap (λ (j : ℕ). rep_course o j m s) h ∙ by_good (none o) 0 s refl (there_fails 0 s (omega arith)))
-
--- a call for some
-pub rep_some : (o : Bool) (q m : ℕ) (s : Stream) → 0 < q → rep_course o q m s ≡ by_walk (walk o q (take m s.numbers)) m s
-rep_some o q m s h =
-    let e : asked q m ≡ m = cond-false (eqb q 0) 0 m (ne_eqb q 0 (λ z. omega (arith, z))) in
-    ap (λ (j : ℕ). by_walk (walk o q (take j s.numbers)) j s) e
-
--- the levels that it takes are there, and no more than were asked for
-module _ (o : Bool) (q m : ℕ) (s : Stream) where
-  taken_of : (w : Walk) (P : ℕ → Type 0) → P 0 → P w.taken → P (by_walk w m s).taken
-  taken_of w P a b = cond_both (not w.stopped && fails m s) broken (found w (w.stopped || eqb w.taken m)) (λ c. P c.taken) (λ _. a) (λ _. b)
-
-  pub walk_there : (by_walk (walk o q (take m s.numbers)) m s).taken ≤ length s.numbers
-  walk_there = taken_of (walk o q (take m s.numbers)) (λ k. k ≤ length s.numbers) (omega arith) (omega (arith, walk_length o q (take m s.numbers), length-take m s.numbers))
-
-  pub walk_within : (by_walk (walk o q (take m s.numbers)) m s).taken ≤ m
-  walk_within = taken_of (walk o q (take m s.numbers)) (λ k. k ≤ m) (omega arith) (omega (arith, walk_length o q (take m s.numbers), length-take m s.numbers))
-
--- ends of a call at the place where it stands
-module _ (o : Bool) (q m : ℕ) (s : Stream) (t c : ℕ) (p : Bool) (u : Stream) (a : Stands o q m s t c p u) where
-  take_nil : (n : ℕ) → ◌≡◌ {A = List ℕ} (take n []) []
-  take_nil n = take_all n [] (omega arith)
-
-  stands_here : take (m - t) u.numbers ≡ [] → walk o q (take m s.numbers) ≡ so_far t c p
-  stands_here e = a.walked ∙ (ap (λ (z : List ℕ). joined (so_far t c p) (walk p (q - c) z)) e ∙ same_walk _ _ _ _ p false (omega arith) (omega arith))
+  stands_here : take (a.levels - w.taken) u.numbers ≡ [] → walk a.opened a.records (take a.levels s.numbers) ≡ so_far w.taken w.closed w.opened
+  stands_here e = z.walked ∙ (ap (λ (xs : List ℕ). joined w (walk w.opened (a.records - w.closed) xs)) e ∙ same_walk _ _ _ _ w.opened false (omega arith) (omega arith))
 
   -- it took all
-  pub here_full : t ≡ m → by_walk (walk o q (take m s.numbers)) m s ≡ found (so_far t c p) true
+  pub here_full : a.levels - w.taken ≡ 0 → course_of a s ≡ Ok (found w true)
   here_full e =
-      let n : m - t ≡ 0 = omega arith in
-      ap (λ (z : Walk). by_walk z m s) (stands_here (ap (λ (j : ℕ). take j u.numbers) n))
-      ∙ (by_good (so_far t c p) m s refl (there_fails m s (omega (arith, a.there))) ∙ ap (λ (b : Bool). found (so_far t c p) b) (eq-eqb t m e))
-
-  none_left : u.numbers ≡ [] → length s.numbers ≡ t
-  none_left e = let l : length u.numbers ≡ length s.numbers - t = ap (λ z. length z.numbers) a.comes ∙ length-drop t s.numbers in omega (arith, l, ap length e, a.there)
+      let t : w.taken ≡ a.levels = omega (arith, z.levels) in
+      ap (λ (x : Walk). by_walk x a.levels s) (stands_here (ap (λ (j : ℕ). take j u.numbers) e))
+      ∙ (by_good (so_far w.taken w.closed w.opened) a.levels s refl (there_fails a.levels s (omega (arith, z.there)))
+      ∙ ap (λ (b : Bool). Ok (found w b)) (eq-eqb w.taken a.levels t))
 
   -- the stream is at its end
-  pub here_bad : u ≡ ended fault → t < m → by_walk (walk o q (take m s.numbers)) m s ≡ broken
-  here_bad e h =
-      let n = ap (λ z. z.numbers) e in
-      let f : fails m s ≡ true = and_from (ltb (length s.numbers) m) (is_fault s.end) (lt-ltb (length s.numbers) m (omega (arith, none_left n))) (ap is_fault (sym (ap (λ z. z.end) a.comes) ∙ ap (λ z. z.end) e)) in
-      ap (λ (z : Walk). by_walk z m s) (stands_here (ap (take (m - t)) n ∙ take_nil (m - t))) ∙ by_bad (so_far t c p) m s refl f
+  none_left : u.numbers ≡ [] → length s.numbers ≡ w.taken
+  none_left e = omega (arith, left_is, ap length e, z.there)
 
-  pub here_clean : u ≡ ended clean → t < m → by_walk (walk o q (take m s.numbers)) m s ≡ found (so_far t c p) false
+  nothing : u.numbers ≡ [] → take (a.levels - w.taken) u.numbers ≡ []
+  nothing e = ap (take (a.levels - w.taken)) e ∙ take_all (a.levels - w.taken) [] (omega arith)
+
+  pub here_fault : u ≡ ended fault → w.taken < a.levels → course_of a s ≡ broken
+  here_fault e h =
+      let n = ap (λ t. t.numbers) e in
+      ap (λ (x : Walk). by_walk x a.levels s) (stands_here (nothing n))
+      ∙ by_bad (so_far w.taken w.closed w.opened) a.levels s refl (fault_fails a.levels s (omega (arith, none_left n, h)) (end_is ∙ ap (λ t. t.end) e))
+
+  pub here_clean : u ≡ ended clean → w.taken < a.levels → course_of a s ≡ Ok (found w false)
   here_clean e h =
-      let n = ap (λ z. z.numbers) e in
-      let f : fails m s ≡ false = and_right (ltb (length s.numbers) m) (is_fault s.end) (ap is_fault (sym (ap (λ z. z.end) a.comes) ∙ ap (λ z. z.end) e)) in
-      ap (λ (z : Walk). by_walk z m s) (stands_here (ap (take (m - t)) n ∙ take_nil (m - t)))
-      ∙ (by_good (so_far t c p) m s refl f ∙ ap (λ (b : Bool). found (so_far t c p) b) (ne_eqb t m (λ z. omega (arith, z, h))))
+      ap (λ (x : Walk). by_walk x a.levels s) (stands_here (nothing (ap (λ t. t.numbers) e)))
+      ∙ (by_good (so_far w.taken w.closed w.opened) a.levels s refl (clean_fails a.levels s (end_is ∙ ap (λ t. t.end) e))
+      ∙ ap (λ (b : Bool). Ok (found w b)) (ne_eqb w.taken a.levels (λ t. omega (arith, t, h))))
 
-pub stands_to : (o : Bool) (q m : ℕ) (s : Stream) (t c : ℕ) (p : Bool) (u v : Stream) → Stands o q m s t c p u → v ≡ u → Stands o q m s t c p v
-stands_to o q m s t c p u v a e =
-    record {
-      walked = a.walked ∙ ap (λ (z : Stream). joined (so_far t c p) (walk p (q - c) (take (m - t) z.numbers))) (sym e);
-      comes = e ∙ a.comes;
-      there = a.there;
-      most = a.most;
-      few = a.few;
-    }
+  -- the next `n` levels are walked over
+  module _ (n : ℕ) (next : Walk) (x : Next a w u n next) where
+    l : w.taken < a.levels
+    l = x.some
+
+    h : n ≤ a.levels - w.taken
+    h = x.levels
+
+    k : n ≤ length u.numbers
+    k = x.there
+
+    e : next ≡ walk w.opened (a.records - w.closed) (take n u.numbers)
+    e = x.walked
+
+    few : w.closed < a.records
+    few = z.some l
+
+    block_then : take (a.levels - w.taken) u.numbers ≡ take n u.numbers ++ take ((a.levels - w.taken) - n) (drop n u.numbers)
+    block_then = let j : a.levels - w.taken ≡ n + ((a.levels - w.taken) - n) = omega arith in ap (λ (i : ℕ). take i u.numbers) j ∙ take-add n ((a.levels - w.taken) - n) u.numbers
+
+    pub next_taken : next.taken ≤ n
+    next_taken = omega (arith, ap (λ x. x.taken) e, walk_length w.opened (a.records - w.closed) (take n u.numbers), length-take n u.numbers)
+
+    pub next_closed : w.closed + next.closed ≤ a.records
+    next_closed = let f = few in omega (arith, ap (λ x. x.closed) e, walk_most w.opened (a.records - w.closed) (take n u.numbers) (omega arith))
+
+    pub next_there : w.taken + next.taken ≤ length s.numbers
+    next_there = omega (arith, next_taken, left_is, k, z.there)
+
+    -- they close the last record
+    stands_stop : next.stopped ≡ true → course_of a s ≡ Ok (found (joined w next) true)
+    stands_stop f =
+        let b : (walk w.opened (a.records - w.closed) (take n u.numbers)).stopped ≡ true = sym (ap (λ y. y.stopped) e) ∙ f in
+        let j : walk a.opened a.records (take a.levels s.numbers) ≡ joined w next =
+        z.walked ∙ (ap (λ y. joined w (walk w.opened (a.records - w.closed) y)) block_then
+        ∙ (ap (joined w) (walk_stopped w.opened (a.records - w.closed) (take n u.numbers) (take ((a.levels - w.taken) - n) (drop n u.numbers)) b) ∙ ap (joined w) (sym e))) in
+        ap (λ (y : Walk). by_walk y a.levels s) j ∙ by_stop (joined w next) a.levels s f
+
+    pub stop_is : (c : Course) (y : Walk) → c ≡ found y true → y ≡ joined w next → y.stopped ≡ true → ◌≡◌ {A = Result Course StreamFault} (Ok c) (course_of a s)
+    stop_is c y d g f = ap (λ (o : Course). Ok o) (d ∙ ap (λ (o : Walk). found o true) g) ∙ sym (stands_stop (sym (ap (λ o. o.stopped) g) ∙ f))
+
+    pub stands_taken : next.stopped ≡ false → next.taken ≡ n
+    stands_taken f =
+        let y : (walk w.opened (a.records - w.closed) (take n u.numbers)).taken ≡ length (take n u.numbers) = walk_whole w.opened (a.records - w.closed) (take n u.numbers) (sym (ap (λ t. t.stopped) e) ∙ f) in
+        ap (λ y. y.taken) e ∙ (y ∙ (length-take n u.numbers ∙ omega (arith, k)))
+
+    -- they don't, and more are to come
+    pub stands_more : (v : Stream) → next.stopped ≡ false → v ≡ after n u → Stands a s (joined w next) v
+    stands_more v f d =
+        let t = stands_taken f in
+        let b : (walk w.opened (a.records - w.closed) (take n u.numbers)).stopped ≡ false = sym (ap (λ y. y.stopped) e) ∙ f in
+        let ys = take ((a.levels - w.taken) - n) (drop n u.numbers) in
+        let i : (a.records - w.closed) - next.closed ≡ a.records - (w.closed + next.closed) = omega arith in
+        let g : (a.levels - w.taken) - n ≡ a.levels - (w.taken + next.taken) = omega (arith, t) in
+        let f0 = few in
+        let r : next.closed < a.records - w.closed = (let y = walk_few w.opened (a.records - w.closed) (take n u.numbers) (omega arith) b in omega (arith, y, ap (λ y. y.closed) e)) in
+        record {
+          walked = z.walked ∙ (ap (λ y. joined w (walk w.opened (a.records - w.closed) y)) block_then
+              ∙ (ap (joined w) (walk_on w.opened (a.records - w.closed) (take n u.numbers) ys b ∙ ap (λ (y : Walk). joined y (walk y.opened ((a.records - w.closed) - y.closed) ys)) (sym e))
+              ∙ (joined_assoc w next (walk next.opened ((a.records - w.closed) - next.closed) ys)
+              ∙ (ap (λ (j : ℕ). joined (joined w next) (walk next.opened j ys)) i
+              ∙ (ap (λ (j : ℕ). joined (joined w next) (walk next.opened (a.records - (w.closed + next.closed)) (take j (drop n u.numbers)))) g
+              ∙ ap (λ (v : Stream). joined (joined w next) (walk next.opened (a.records - (w.closed + next.closed)) (take (a.levels - (w.taken + next.taken)) v.numbers))) (sym d))))));
+          comes = d ∙ (ap (after n) z.comes ∙ (after_after w.taken n s ∙ ap (λ (j : ℕ). after (w.taken + j) s) (sym t)));
+          there = omega (arith, left_is, t, z.there, k);
+          levels = omega (arith, t, z.levels);
+          records = omega (arith, r);
+          some = λ _. omega (arith, r);
+        }
+
+pub stands_to : (a : Asked) (s : Stream) (w : Walk) (u v : Stream) → Stands a s w u → v ≡ u → Stands a s w v
+stands_to a s w u v z e = subst (Stands a s w) (sym e) z
+
+-- a walk over what is still asked for
+module _ (a : Asked) (w : Walk) (u : Stream) (z : w.taken ≤ a.levels) (r : Asked) (o : r.opened ≡ w.opened) (d : r.records ≡ a.records - w.closed) (l : r.levels ≡ a.levels - w.taken) (some : r.levels ≡ 0 → ⊥) (next : Walk) where
+  pub held_next : (n : ℕ) → n ≤ r.levels → n ≤ length u.numbers → next ≡ walk r.opened r.records (take n u.numbers) → Next a w u n next
+  held_next n h k e = record { some = omega (arith, some); levels = omega arith; there = k; walked = cc }
+
+  pub block_next : (k n : ℕ) (b p : List ℕ) → n ≤ r.levels → ◌≡◌ {A = Result ℕ StreamFault} (Ok k) (some_of (length (take n b)) u) → p ≡ filled (λ x. x) u (take n b) → next ≡ walk r.opened r.records (take k (p ++ drop n b)) → Next a w u k next
+  block_next k n b p h g f e =
+      let m : k ≡ given (length (take n b)) u = some_given (length (take n b)) u k g in
+      held_next k (omega (arith, m, length-take n b)) (omega (arith, m)) (e ∙ ap (walk r.opened r.records) (block_holds k u (take n b) p (drop n b) m f))

@@ -1,7 +1,7 @@
 -- Laws of walks.
 use Rattle.std.proofs.Common.{◌≡◌, ℕ, ◌+◌, ◌-◌, ◌<◌, ◌≤◌, Bool, true, false, ◌&&◌, eqb, leb, List, [], ◌∷◌, ◌++◌, length, get_or, drop, sym, refl, ap, ◌∙◌, inl, inr, arith}
 use Rattle.std.proofs.lemmas.List.{drop_more, drop_all}
-use Rattle.std.proofs.lemmas.Bool.{cond-true, cond-false, le-leb, lt-leb, cases_Bool, cases_lt}
+use Rattle.std.proofs.lemmas.Bool.{and_from, cond-true, cond-false, eq-eqb, le-leb, lt-leb, cases_Bool, cases_lt}
 use Rattle.level.specs.declared.walk.Walk.{Walk}
 use Rattle.level.specs.Records.{joined, one, none, last, walk}
 
@@ -29,40 +29,53 @@ module _ (o : Bool) (q x : ℕ) (xs : List ℕ) where
   pub walk_goes : (o && eqb x 0) ≡ false → walk o q (x ∷ xs) ≡ joined (one 0) (walk true q xs)
   walk_goes e = cond-false (o && eqb x 0) _ _ e
 
--- a walk over `xs` that stands before its place `i`
-abbrev pub At : Bool → ℕ → List ℕ → ℕ → ℕ → Bool → Type 0
-At o q xs i c p = walk o q xs ≡ joined (so_far i c p) (walk p (q - c) (drop i xs))
+-- a walk over `xs` stands before its place `i`
+pub record At (o : Bool) (q : ℕ) (xs : List ℕ) (i c : ℕ) (p : Bool) : Type 0 where
+  pub few : c < q
+  pub walked : walk o q xs ≡ joined (so_far i c p) (walk p (q - c) (drop i xs))
 
 module _ (o : Bool) (q : ℕ) (xs : List ℕ) where
-  pub at_start : At o q xs 0 0 o
-  at_start = let e : q ≡ q - 0 = omega arith in sym (joined_none o (walk o q xs)) ∙ ap (λ (j : ℕ). joined (none o) (walk o j xs)) e
+  pub at_start : 0 < q → At o q xs 0 0 o
+  at_start h =
+      let e : q ≡ q - 0 = omega arith in
+      record { few = h; walked = sym (joined_none o (walk o q xs)) ∙ ap (λ (j : ℕ). joined (none o) (walk o j xs)) e }
 
   module _ (i c : ℕ) (p : Bool) (a : At o q xs i c p) where
     at_level : i < length xs → walk o q xs ≡ joined (so_far i c p) (walk p (q - c) (get_or xs i 0 ∷ drop (i + 1) xs))
-    at_level h = a ∙ ap (λ z. joined (so_far i c p) (walk p (q - c) z)) (drop_more xs i 0 h)
+    at_level h = a.walked ∙ ap (λ z. joined (so_far i c p) (walk p (q - c) z)) (drop_more xs i 0 h)
 
-    pub at_stop : i < length xs → (p && eqb (get_or xs i 0) 0) ≡ true → c + 1 ≡ q → walk o q xs ≡ record { taken = i; closed = c + 1; opened = false; stopped = true }
-    at_stop h e k =
-        at_level h ∙ (ap (joined (so_far i c p)) (walk_stops p (q - c) (get_or xs i 0) (drop (i + 1) xs) e (omega arith)) ∙ same_walk _ _ _ _ false true (omega arith) (omega arith))
-
-    pub at_close : i < length xs → (p && eqb (get_or xs i 0) 0) ≡ true → c + 1 < q → At o q xs (i + 1) (c + 1) true
-    at_close h e k =
-        let n : (q - c) - 1 ≡ q - (c + 1) = omega arith in
+    -- the next level closes the last record, or another, or none
+    pub at_stop : i < length xs → p ≡ true → get_or xs i 0 ≡ 0 → c + 1 ≡ q → walk o q xs ≡ record { taken = i; closed = c + 1; opened = false; stopped = true }
+    at_stop h e z k =
         at_level h
-        ∙ (ap (joined (so_far i c p)) (walk_closes p (q - c) (get_or xs i 0) (drop (i + 1) xs) e (omega arith))
-        ∙ (joined_assoc (so_far i c p) (one 1) (walk true ((q - c) - 1) (drop (i + 1) xs))
-        ∙ ap (λ (j : ℕ). joined (so_far (i + 1) (c + 1) true) (walk true j (drop (i + 1) xs))) n))
+        ∙ (ap (joined (so_far i c p)) (walk_stops p (q - c) (get_or xs i 0) (drop (i + 1) xs) (and_from p (eqb (get_or xs i 0) 0) e (eq-eqb (get_or xs i 0) 0 z)) (omega arith))
+        ∙ same_walk _ _ _ _ false true (omega arith) (omega arith))
+
+    pub at_close : i < length xs → p ≡ true → get_or xs i 0 ≡ 0 → (c + 1 ≡ q → ⊥) → At o q xs (i + 1) (c + 1) true
+    at_close h e z k =
+        let n : (q - c) - 1 ≡ q - (c + 1) = omega arith in
+        let l : c + 1 < q = omega (arith, k, a.few) in
+        record {
+          few = l;
+          walked = at_level h
+              ∙ (ap (joined (so_far i c p)) (walk_closes p (q - c) (get_or xs i 0) (drop (i + 1) xs) (and_from p (eqb (get_or xs i 0) 0) e (eq-eqb (get_or xs i 0) 0 z)) (omega (arith, l)))
+              ∙ (joined_assoc (so_far i c p) (one 1) (walk true ((q - c) - 1) (drop (i + 1) xs))
+              ∙ ap (λ (j : ℕ). joined (so_far (i + 1) (c + 1) true) (walk true j (drop (i + 1) xs))) n));
+        }
 
     pub at_go : i < length xs → (p && eqb (get_or xs i 0) 0) ≡ false → At o q xs (i + 1) c true
     at_go h e =
         let n : c + 0 ≡ c = omega arith in
-        at_level h
-        ∙ (ap (joined (so_far i c p)) (walk_goes p (q - c) (get_or xs i 0) (drop (i + 1) xs) e)
-        ∙ (joined_assoc (so_far i c p) (one 0) (walk true (q - c) (drop (i + 1) xs))
-        ∙ ap (λ (j : ℕ). joined (so_far (i + 1) j true) (walk true (q - c) (drop (i + 1) xs))) n))
+        record {
+          few = a.few;
+          walked = at_level h
+              ∙ (ap (joined (so_far i c p)) (walk_goes p (q - c) (get_or xs i 0) (drop (i + 1) xs) e)
+              ∙ (joined_assoc (so_far i c p) (one 0) (walk true (q - c) (drop (i + 1) xs))
+              ∙ ap (λ (j : ℕ). joined (so_far (i + 1) j true) (walk true (q - c) (drop (i + 1) xs))) n));
+        }
 
     pub at_end : length xs ≡ i → walk o q xs ≡ so_far (length xs) c p
-    at_end h = a ∙ (ap (λ z. joined (so_far i c p) (walk p (q - c) z)) (drop_all i xs (omega arith)) ∙ same_walk _ _ _ _ p false (omega arith) (omega arith))
+    at_end h = a.walked ∙ (ap (λ z. joined (so_far i c p) (walk p (q - c) z)) (drop_all i xs (omega arith)) ∙ same_walk _ _ _ _ p false (omega arith) (omega arith))
 
 -- a walk that was not stopped has levels of its own behind each closed record
 pub walk_few : (o : Bool) (q : ℕ) (xs : List ℕ) → 0 < q → (walk o q xs).stopped ≡ false → (walk o q xs).closed < q

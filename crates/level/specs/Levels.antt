@@ -2,8 +2,8 @@
 use Rattle.std.specs.Prelude.{ℕ, ◌+◌, ◌%◌, List, ℤ, pos}
 use Rattle.stream.specs.Streams.{Stream, hybrid, bit_packed}
 use Rattle.level_bytes.specs.Bits.{bits}
-use Rattle.level.specs.declared.encoding.LevelEncoding.{LevelEncoding}
-use Rattle.level.specs.declared.encoding.LevelEncoding.TheVariants.{Rle, BitPacked}
+use Rattle.level_bytes.specs.declared.encoding.LevelEncoding.{LevelEncoding}
+use Rattle.level_bytes.specs.declared.encoding.LevelEncoding.TheVariants.{Rle, BitPacked}
 
 -- the levels in bytes: numbers of as many bits as the maximum has, and none above it
 abbrev pub levels : ℕ → LevelEncoding → List ℕ → Stream

@@ -1,3 +1,4 @@
+pub mod Columns
 pub mod Courses
 pub mod Levels
 pub mod Lookahead

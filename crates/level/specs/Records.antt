@@ -1,8 +1,10 @@
 -- Where a call for records stops.
-use Rattle.std.specs.Prelude.{ℕ, ◌+◌, ◌-◌, Bool, true, false, cond, not, ◌&&◌, ◌||◌, List, [], ◌∷◌, take, ◌==◌, nat_le}
+use Rattle.std.specs.Prelude.{ℕ, ◌+◌, ◌-◌, Bool, true, false, cond, not, ◌&&◌, ◌||◌, List, [], ◌∷◌, take, Ok, Result, ◌==◌, nat_le}
 use Rattle.stream.specs.Streams.{Stream}
+use Rattle.run.specs.declared.kind.StreamFault.{StreamFault}
 use Rattle.run.specs.Reading.{fails}
 use Rattle.level.specs.declared.course.Course.{Course}
+use Rattle.level.specs.declared.asked.Asked.{Asked}
 use Rattle.level.specs.declared.walk.Walk.{Walk}
 use Rattle.level.specs.Courses.{broken}
 
@@ -31,12 +33,18 @@ walk o q (x ∷ xs) = cond (o && x == 0) (cond (nat_le q 1) last (joined (one 1)
 abbrev pub asked : ℕ → ℕ → ℕ
 asked q m = cond (q == 0) 0 m
 
+-- what a walk makes of a call, which has all that was asked for or not
+abbrev pub found : Walk → Bool → Course
+found w f = record { full = f; taken = w.taken; told = w.closed; opened = w.opened }
+
 -- what the walk over the next `m` levels makes of a call: one that was not stopped before meets the fault or the end behind them
-abbrev pub by_walk : Walk → ℕ → Stream → Course
-by_walk w m s =
-    cond (not w.stopped && fails m s) broken
-    (record { faulty = false; full = w.stopped || (w.taken == m); taken = w.taken; told = w.closed; opened = w.opened })
+abbrev pub by_walk : Walk → ℕ → Stream → Result Course StreamFault
+by_walk w m s = cond (not w.stopped && fails m s) broken (Ok (found w (w.stopped || (w.taken == m))))
 
 -- a call for `q` records and `m` levels, with a record open or not
-abbrev pub rep_course : Bool → ℕ → ℕ → Stream → Course
+abbrev pub rep_course : Bool → ℕ → ℕ → Stream → Result Course StreamFault
 rep_course o q m s = by_walk (walk o q (take (asked q m) s.numbers)) (asked q m) s
+
+-- the same of what is asked for
+abbrev pub course_of : Asked → Stream → Result Course StreamFault
+course_of a s = by_walk (walk a.opened a.records (take a.levels s.numbers)) a.levels s

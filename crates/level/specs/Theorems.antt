@@ -1,13 +1,15 @@
 -- What decoders have in common, and what two calls are.
-use Rattle.std.specs.Prelude.{◌≡◌, ℕ, ◌+◌, ◌≤◌, Bool, false, ◌++◌, length, take, ℤ, pos}
+use Rattle.std.specs.Prelude.{◌≡◌, ℕ, ◌+◌, ◌≤◌, Bool, ◌++◌, length, take, ℤ, pos, Ok, Err, Result}
 use Rattle.stream.specs.Streams.{Stream}
+use Rattle.run.specs.declared.kind.StreamFault.{StreamFault}
+use Rattle.run.specs.declared.reader.RunReader.{RunReader}
 use Rattle.run.specs.Coming.{to_come}
 use Rattle.run.specs.Reading.{after}
 use Rattle.area.specs.declared.area.Area.{Area}
-use Rattle.level.specs.declared.definition.LevelsDecoder.{LevelsDecoder}
-use Rattle.level.specs.declared.definition.MaskDecoder.{MaskDecoder}
-use Rattle.level.specs.declared.lookahead.RepetitionLevelDecoderImpl.{RepetitionLevelDecoderImpl}
-use Rattle.level.specs.declared.repetition.PlainRepetitionDecoder.{PlainRepetitionDecoder}
+use Rattle.level.specs.declared.ahead.Ahead.{Ahead}
+use Rattle.level.specs.declared.course.Course.{Course}
+use Rattle.level.specs.declared.definition.DefinitionLevelDecoderImpl.{DefinitionLevelDecoderImpl}
+use Rattle.level.specs.declared.repetition.RepetitionDecoder.{RepetitionDecoder}
 use Rattle.level.specs.Courses.{reply, left, open_after, area_after, def_course}
 use Rattle.level.specs.Levels.{level}
 use Rattle.level.specs.Lookahead.{coming}
@@ -23,28 +25,33 @@ pub record SameRep (s t : Stream) (o p : Bool) (room q m : ℕ) : Type 0 where
 -- Where the plain decoder and the one that works ahead mean the same, each call replies the same and fills an area with the same, and they mean the same again.
 abbrev pub RepAlike : Type 0
 RepAlike =
-    (x : PlainRepetitionDecoder) (y : RepetitionLevelDecoderImpl) → to_come x.reader ≡ coming y.ahead → x.partial ≡ y.partial
-    → (room q m : ℕ) → SameRep (to_come x.reader) (coming y.ahead) x.partial y.partial room q m
+    (x : RepetitionDecoder RunReader) (y : RepetitionDecoder Ahead) → to_come x.source ≡ coming y.source → x.partial ≡ y.partial
+    → (room q m : ℕ) → SameRep (to_come x.source) (coming y.source) x.partial y.partial room q m
 
 -- the same of decoders of definition levels
 pub record SameDef (s t : Stream) (max room m : ℕ) : Type 0 where
   pub told : reply room (def_course max m s) ≡ reply room (def_course max m t)
   pub comes : left room (def_course max m s) s ≡ left room (def_course max m t) t
 
--- Where the decoder of levels and that of a mask mean the same, each call replies the same, and they mean the same again.
-abbrev pub DefAlike : Type 0
-DefAlike =
-    (x : LevelsDecoder) (y : MaskDecoder) → to_come x.reader ≡ to_come y.reader → (max room m : ℕ) → SameDef (to_come x.reader) (to_come y.reader) max room m
+-- Where decoders of any two kinds of level mean the same, as that of levels and that of a mask, each call replies the same, and they mean the same again.
+abbrev pub DefAlike : Type 0 → Type 0 → Type 0
+DefAlike A B =
+    (x : DefinitionLevelDecoderImpl A) (y : DefinitionLevelDecoderImpl B) → to_come x.reader ≡ to_come y.reader
+    → (max room m : ℕ) → SameDef (to_come x.reader) (to_come y.reader) max room m
+
+-- a call that took `c`, and one behind it, as one call
+abbrev pub behind : Course → Result Course StreamFault → Result Course StreamFault
+behind c (Err e) = Err e
+behind c (Ok d) = Ok (record { full = d.full; taken = c.taken + d.taken; told = c.told + d.told; opened = d.opened })
 
 -- A call for `n` definition levels and then one for `m`, and one call for `n + m`.
 pub record Added (max : ℕ) (s : Stream) (n m : ℕ) : Type 0 where
-  pub first : (def_course max n s).faulty ≡ false
-  pub many : (def_course max n s).taken ≡ n
-  pub faults : (def_course max (n + m) s).faulty ≡ (def_course max m (after n s)).faulty
-  pub taken : (def_course max (n + m) s).faulty ≡ false → (def_course max (n + m) s).taken ≡ n + (def_course max m (after n s)).taken
-  pub told : (def_course max (n + m) s).faulty ≡ false → (def_course max (n + m) s).told ≡ (def_course max n s).told + (def_course max m (after n s)).told
+  pub course : Course
+  pub first : def_course max n s ≡ Ok course
+  pub many : course.taken ≡ n
+  pub both : def_course max (n + m) s ≡ behind course (def_course max m (after n s))
   pub levels : take (n + m) s.numbers ≡ take n s.numbers ++ take m (after n s).numbers
-  pub behind : after (n + m) s ≡ after m (after n s)
+  pub rest : after (n + m) s ≡ after m (after n s)
 
 -- Where the first call's levels are all there, the two calls are the one.
 abbrev pub Adds : Type 0

@@ -1,8 +1,7 @@
 //! Reading ahead, and handing on.
 
-ghost use Rattle.std.specs.Prelude.{◌≡◌, ◌-◌, ◌<◌, ◌≤◌, min, map, length, take, if◌then◌else◌};
+ghost use Rattle.std.specs.Prelude.{◌≡◌, ◌-◌, ◌<◌, ◌≤◌, min, true, map, length, take, is_err, IfOk};
 ghost use Rattle.stream.specs.Streams.{ended, clean, fault};
-ghost use Rattle.run.specs.Coming.{to_come};
 ghost use Rattle.run.specs.Reading.{after};
 ghost use Rattle.area.specs.Areas.{room as room_of, appended};
 ghost use Rattle.level.specs.Levels.{level};
@@ -10,10 +9,11 @@ ghost use Rattle.level.specs.Lookahead.{coming};
 ghost use Rattle.level.specs.Records.{walk};
 
 use crate::ahead::Ahead;
-use crate::block::next_block;
-use crate::walk::{Walk, walk_levels};
+use crate::asked::Asked;
+use crate::walk::Walk;
 use area::area::Area;
 use element::number::Number;
+use run::kind::StreamFault;
 use run::reader::RunReader;
 
 /// Writes levels as elements.
@@ -21,8 +21,8 @@ fn write_levels<T: Number>(levels: &[u32], out: &mut [T])
     requires { length levels.now ≡ length out.old }
     ensures { out.new ≡ map T.Number.from levels.now }
 {
-    for i in 0..out.len() {
-        out[i] = T::from_u32(levels[i]);
+    for (i, level) in levels.iter().enumerate() {
+        out[i] = T::from_u32(*level);
     }
 }
 
@@ -38,53 +38,33 @@ fn append_levels<T: Number>(levels: &[u32], out: &mut Area<'_, T>)
 }
 
 impl<'a> Ahead<'a> {
-    /// Nothing read ahead of the reader.
-    pub(crate) fn over(reader: RunReader<'a>) -> Ahead<'a>
-        ensures { coming result ≡ to_come reader.entry }
-    {
-        Ahead {
-            reader,
-            buffer: [0; 1024],
-            len: 0,
-            offset: 0,
-        }
-    }
-
-    /// Goes on at another reader, and forgets what was read ahead.
-    pub(crate) fn restart(&mut self, reader: RunReader<'a>)
-        ensures { coming self.new ≡ to_come reader.entry }
-    {
-        self.offset = 0;
-        self.len = 0;
-        self.reader = reader;
-    }
-
-    /// Reads ahead where nothing is held: how many levels are held then, and, where none is, whether the end is a fault.
-    pub(crate) fn ready(&mut self) -> (usize, bool)
-        ensures many { result.0 ≡ self.new.len - self.new.offset }
-        ensures there { result.0 ≤ length (coming self.new).numbers }
+    /// Reads ahead where nothing is held: how many levels are held then, none at a clean end; or the fault that comes first.
+    pub(crate) fn ready(&mut self) -> Result<usize, StreamFault>
+        ensures many { IfOk result (λ k. k ≡ self.new.len - self.new.offset) }
+        ensures there { IfOk result (λ k. k ≤ length (coming self.new).numbers) }
         ensures comes { coming self.new ≡ coming self.old }
-        ensures over { result.0 ≡ 0 → coming self.new ≡ ended (if result.1 then fault else clean) }
+        ensures clean { result ≡ Ok 0 → coming self.new ≡ ended clean }
+        ensures fault { is_err result ≡ true → coming self.new ≡ ended fault }
     {
         if self.offset < self.len {
-            return (self.len - self.offset, false);
+            return Ok(self.len - self.offset);
         }
-        let (k, bad) = next_block(&mut self.reader, &mut self.buffer);
+        let k = self.reader.read_some(&mut self.buffer)?;
         self.offset = 0;
         self.len = k;
-        (k, bad)
+        Ok(k)
     }
 
     /// Walks over the next `n` levels that are held.
-    pub(crate) fn walk_held(&self, n: usize, partial: bool, q: usize) -> Walk
+    pub(crate) fn walk_held(&self, n: usize, asked: Asked) -> Walk
         requires held { n ≤ self.now.len - self.now.offset }
-        requires some_records { 0 < q }
-        ensures is { result ≡ walk partial q (take n (coming self.now).numbers) }
+        requires some { 0 < asked.records }
+        ensures is { result ≡ walk asked.opened asked.records (take n (coming self.now).numbers) }
         ensures most { result.taken ≤ n }
-        ensures few { result.closed ≤ q }
+        ensures few { result.closed ≤ asked.records }
     {
         let at = self.offset;
-        walk_levels(&self.buffer[at..at + n], partial, q)
+        asked.walk(&self.buffer[at..at + n])
     }
 
     /// Hands on the next `k` levels that are held, those that fit to an area.

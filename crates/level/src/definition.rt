@@ -1,21 +1,24 @@
 //! Decoders of definition levels.
 
-ghost use Rattle.std.specs.Prelude.{◌≡◌, true, false};
+ghost use Rattle.std.specs.Prelude.{◌≡◌, Bool, true, false};
 ghost use Rattle.level_bytes.specs.Cuts.{above_zero};
 ghost use Rattle.run.specs.Coming.{to_come};
 ghost use Rattle.area.specs.Areas.{room};
 ghost use Rattle.level.specs.Levels.{levels};
-ghost use Rattle.level.specs.Courses.{def_course, reply, left, area_after};
+ghost use Rattle.level.specs.Columns.{def_call, after_call};
+ghost use Rattle.level.specs.Courses.{reply, area_after};
 
 use crate::column::ColumnLevelDecoder;
 use crate::count::def_course;
-use crate::encoding::{LevelEncoding, level_reader};
+use crate::course::{admit, answer};
+use crate::encoding::{LevelEncoding, level_reader, top};
 use crate::refusal::LevelRefusal;
 use crate::take::{deliver, pass};
 use area::area::Area;
 use element::blank::Blank;
 use element::number::Number;
 use run::reader::RunReader;
+use std::marker::PhantomData;
 
 /// A decoder of definition levels.
 pub trait DefinitionLevelDecoder<'a>: ColumnLevelDecoder<'a> {
@@ -29,47 +32,56 @@ pub trait DefinitionLevelDecoder<'a>: ColumnLevelDecoder<'a> {
         out: &mut Area<'_, Self::Level>,
         num_levels: usize,
     ) -> Result<(usize, usize), LevelRefusal>
-        ensures told { result ≡ reply (room out.old) (def_course (Self.ColumnLevelDecoder.maximum self.old) num_levels (Self.ColumnLevelDecoder.stream self.old)) }
-        ensures comes { Self.ColumnLevelDecoder.stream self.new ≡ left (room out.old) (def_course (Self.ColumnLevelDecoder.maximum self.old) num_levels (Self.ColumnLevelDecoder.stream self.old)) (Self.ColumnLevelDecoder.stream self.old) }
-        ensures holds { out.new ≡ area_after Self.Level.Number.from Self.Level.Blank.blank_is (def_course (Self.ColumnLevelDecoder.maximum self.old) num_levels (Self.ColumnLevelDecoder.stream self.old)) (Self.ColumnLevelDecoder.stream self.old) out.old }
-        ensures top { Self.ColumnLevelDecoder.maximum self.new ≡ Self.ColumnLevelDecoder.maximum self.old };
+        ensures told { result ≡ reply (room out.old) (def_call num_levels (Self.column self.old)) }
+        ensures stands { Self.column self.new ≡ after_call (room out.old) (def_call num_levels (Self.column self.old)) (Self.column self.old) }
+        ensures holds { out.new ≡ area_after Self.Level.Number.from Self.Level.Blank.blank_is (def_call num_levels (Self.column self.old)) (Self.column self.old).levels out.old };
 
     /// Takes levels as `read_def_levels` does, and leaves them out.
     fn skip_def_levels(&mut self, num_levels: usize) -> Result<(usize, usize), LevelRefusal>
-        ensures told { result ≡ reply num_levels (def_course (Self.ColumnLevelDecoder.maximum self.old) num_levels (Self.ColumnLevelDecoder.stream self.old)) }
-        ensures comes { Self.ColumnLevelDecoder.stream self.new ≡ left num_levels (def_course (Self.ColumnLevelDecoder.maximum self.old) num_levels (Self.ColumnLevelDecoder.stream self.old)) (Self.ColumnLevelDecoder.stream self.old) }
-        ensures top { Self.ColumnLevelDecoder.maximum self.new ≡ Self.ColumnLevelDecoder.maximum self.old };
+        ensures told { result ≡ reply num_levels (def_call num_levels (Self.column self.old)) }
+        ensures stands { Self.column self.new ≡ after_call num_levels (def_call num_levels (Self.column self.old)) (Self.column self.old) };
+}
+
+/// A kind of level that decoders tell.
+pub trait LevelKind: Number + Blank {
+    // Whether levels of this kind fill a mask.
+    ghost fills_mask: { Bool };
+}
+
+impl LevelKind for i16 {
+    ghost fills_mask = { false };
+}
+
+impl LevelKind for bool {
+    ghost fills_mask = { true };
+}
+
+/// A decoder of definition levels into levels of a kind.
+#[derive(Drop)]
+pub struct DefinitionLevelDecoderImpl<'a, L> {
+    max_level: i16,
+    reader: RunReader<'a>,
+    kind: PhantomData<L>,
 }
 
 /// A decoder of definition levels into levels.
-#[derive(Drop)]
-pub struct LevelsDecoder<'a> {
-    max_level: i16,
-    reader: RunReader<'a>,
-}
+pub type LevelsDecoder<'a> = DefinitionLevelDecoderImpl<'a, i16>;
 
 /// A decoder of definition levels into a mask, for the maximum 1: whether a level is not 0.
-#[derive(Drop)]
-pub struct MaskDecoder<'a> {
-    max_level: i16,
-    reader: RunReader<'a>,
-}
+pub type MaskDecoder<'a> = DefinitionLevelDecoderImpl<'a, bool>;
 
-impl<'a> ColumnLevelDecoder<'a> for LevelsDecoder<'a> {
+impl<'a, L: LevelKind> ColumnLevelDecoder<'a> for DefinitionLevelDecoderImpl<'a, L> {
     ghost rule = { levels };
 
-    ghost mask = { false };
+    ghost mask = { L.fills_mask };
 
-    ghost stream = { λ s. to_come s.reader };
+    ghost column = { λ s. record { maximum = above_zero s.max_level; levels = to_come s.reader; opened = false } };
 
-    ghost opened = { λ _. false };
-
-    ghost maximum = { λ s. above_zero s.max_level };
-
-    fn new(max_level: i16) -> LevelsDecoder<'a> {
-        LevelsDecoder {
+    fn new(max_level: i16) -> DefinitionLevelDecoderImpl<'a, L> {
+        DefinitionLevelDecoderImpl {
             max_level,
             reader: RunReader::empty(),
+            kind: PhantomData,
         }
     }
 
@@ -78,61 +90,28 @@ impl<'a> ColumnLevelDecoder<'a> for LevelsDecoder<'a> {
     }
 }
 
-impl<'a> DefinitionLevelDecoder<'a> for LevelsDecoder<'a> {
-    type Level = i16;
+impl<'a, L: LevelKind> DefinitionLevelDecoder<'a> for DefinitionLevelDecoderImpl<'a, L> {
+    type Level = L;
 
     fn read_def_levels(
         &mut self,
-        out: &mut Area<'_, i16>,
+        out: &mut Area<'_, L>,
         num_levels: usize,
     ) -> Result<(usize, usize), LevelRefusal> {
-        let course = def_course(self.reader, self.max_level, num_levels);
-        deliver(&mut self.reader, out, course)
+        let course = admit(
+            def_course(self.reader, top(self.max_level), num_levels),
+            out.room(),
+        );
+        deliver(&mut self.reader, out, course);
+        answer(course)
     }
 
     fn skip_def_levels(&mut self, num_levels: usize) -> Result<(usize, usize), LevelRefusal> {
-        let course = def_course(self.reader, self.max_level, num_levels);
-        pass(&mut self.reader, course, num_levels)
-    }
-}
-
-impl<'a> ColumnLevelDecoder<'a> for MaskDecoder<'a> {
-    ghost rule = { levels };
-
-    ghost mask = { true };
-
-    ghost stream = { λ s. to_come s.reader };
-
-    ghost opened = { λ _. false };
-
-    ghost maximum = { λ s. above_zero s.max_level };
-
-    fn new(max_level: i16) -> MaskDecoder<'a> {
-        MaskDecoder {
-            max_level,
-            reader: RunReader::empty(),
-        }
-    }
-
-    fn set_data(&mut self, encoding: LevelEncoding, data: &'a [u8]) {
-        self.reader = level_reader(self.max_level, encoding, data);
-    }
-}
-
-impl<'a> DefinitionLevelDecoder<'a> for MaskDecoder<'a> {
-    type Level = bool;
-
-    fn read_def_levels(
-        &mut self,
-        out: &mut Area<'_, bool>,
-        num_levels: usize,
-    ) -> Result<(usize, usize), LevelRefusal> {
-        let course = def_course(self.reader, self.max_level, num_levels);
-        deliver(&mut self.reader, out, course)
-    }
-
-    fn skip_def_levels(&mut self, num_levels: usize) -> Result<(usize, usize), LevelRefusal> {
-        let course = def_course(self.reader, self.max_level, num_levels);
-        pass(&mut self.reader, course, num_levels)
+        let course = admit(
+            def_course(self.reader, top(self.max_level), num_levels),
+            num_levels,
+        );
+        pass(&mut self.reader, course);
+        answer(course)
     }
 }

@@ -1,22 +1,14 @@
-//! The encodings of levels.
+//! Readers of encoded levels.
 
 ghost use Rattle.std.specs.Prelude.{◌≡◌};
 ghost use Rattle.level_bytes.specs.Cuts.{above_zero};
 ghost use Rattle.run.specs.Coming.{to_come};
 ghost use Rattle.level.specs.Levels.{levels};
 
+pub use level_bytes::encoding::LevelEncoding;
 use level_bytes::width::level_width;
 use run::reader::RunReader;
 use stream::width::Width;
-
-/// An encoding of levels.
-#[derive(Clone, Copy)]
-pub enum LevelEncoding {
-    /// The hybrid of runs and bit-packing: encoding 3.
-    Rle,
-    /// BIT_PACKED: encoding 4.
-    BitPacked,
-}
 
 /// A reader of the levels in `data`.
 pub(crate) fn level_reader<'a>(
@@ -26,10 +18,7 @@ pub(crate) fn level_reader<'a>(
 ) -> RunReader<'a>
     ensures { to_come result ≡ levels (above_zero max_level) encoding «data».now }
 {
-    let width = match Width::new(level_width(max_level)) {
-        Some(width) => width,
-        None => unreachable(),
-    };
+    let width = Width::new(level_width(max_level)).unwrap();
     let limit = top(max_level) as u64 + 1;
     match encoding {
         LevelEncoding::Rle => RunReader::hybrid(data, width, limit),
@@ -41,8 +30,5 @@ pub(crate) fn level_reader<'a>(
 pub(crate) fn top(max_level: i16) -> u32
     ensures { result ≡ above_zero max_level }
 {
-    if max_level <= 0 {
-        return 0;
-    }
-    max_level as u32
+    max_level.max(0) as u32
 }

@@ -1,17 +1,19 @@
 //! Decoders of a column's levels.
 #![tactic(auto)]
 
-mod ahead;
+pub mod ahead;
+pub mod asked;
 mod block;
 mod buffered;
 pub mod column;
 mod count;
-mod course;
+pub mod course;
 pub mod definition;
 pub mod encoding;
 pub mod lookahead;
 pub mod refusal;
 pub mod repetition;
+pub mod source;
 mod take;
 pub mod theorems;
 mod walk;

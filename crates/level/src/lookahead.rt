@@ -1,211 +1,93 @@
 //! A decoder of repetition levels that works ahead.
 
-ghost use Rattle.std.specs.Prelude.{◌≡◌, ◌<◌, min, false, map, take, pos};
-ghost use Rattle.level_bytes.specs.Cuts.{above_zero};
+ghost use Rattle.std.specs.Prelude.{◌≡◌, min, map, take, pos, IfOk};
 ghost use Rattle.run.specs.Reading.{after};
 ghost use Rattle.area.specs.Areas.{room as room_of, appended, blanked};
-ghost use Rattle.level.specs.Levels.{levels, level};
-ghost use Rattle.level.specs.Courses.{reply, left, area_after};
+ghost use Rattle.level.specs.Levels.{level};
 ghost use Rattle.level.specs.Lookahead.{coming};
-ghost use Rattle.level.specs.Records.{walk, by_walk, rep_course};
+ghost use Rattle.level.specs.Records.{course_of};
 
 use crate::ahead::Ahead;
-use crate::column::ColumnLevelDecoder;
-use crate::course::Course;
-use crate::encoding::{LevelEncoding, level_reader};
+use crate::asked::Asked;
+use crate::course::{Course, admit};
 use crate::refusal::LevelRefusal;
-use crate::repetition::RepetitionLevelDecoder;
-use crate::take::{answer, is_open_after, is_refused};
+use crate::repetition::RepetitionDecoder;
+use crate::source::LevelSource;
+use crate::walk::Walk;
 use area::area::Area;
+use run::kind::StreamFault;
 use run::reader::RunReader;
 
-/// Takes levels from block to block, and appends those that fit.
-fn walk_ahead(
-    ahead: &mut Ahead<'_>,
-    out: &mut Area<'_, i16>,
-    partial: bool,
-    q: usize,
-    m: usize,
-) -> Course
-    requires { 0 < q }
-    ensures is { result ≡ by_walk (walk partial q (take m (coming ahead.old).numbers)) m (coming ahead.old) }
-    ensures comes { result.faulty ≡ false → coming ahead.new ≡ after result.taken (coming ahead.old) }
-    ensures holds { result.faulty ≡ false → out.new ≡ appended out.old (map level (take (min result.taken (room_of out.old)) (coming ahead.old).numbers)) }
-    ensures back { blanked (pos 0) out.new out.old.count ≡ blanked (pos 0) out.old out.old.count }
-{
-    let mut taken = 0;
-    let mut closed = 0;
-    let mut opened = partial;
-    'walks: loop {
-        if taken == m {
-            return Course {
-                faulty: false,
-                full: true,
-                taken,
-                told: closed,
-                opened,
-            };
-        }
-        let (k, bad) = ahead.ready();
-        if k == 0 {
-            if bad {
-                return Course {
-                    faulty: true,
-                    full: false,
-                    taken: 0,
-                    told: 0,
-                    opened: false,
-                };
-            }
-            return Course {
-                faulty: false,
-                full: false,
-                taken,
-                told: closed,
-                opened,
-            };
-        }
-        let n = k.min(m - taken);
-        let walked = ahead.walk_held(n, opened, q - closed);
-        ahead.hand_on(out, walked.taken);
-        taken += walked.taken;
-        closed += walked.closed;
-        opened = walked.opened;
-        let stopped = walked.stopped;
-        if stopped {
-            return Course {
-                faulty: false,
-                full: true,
-                taken,
-                told: closed,
-                opened,
-            };
-        }
-    }
-}
-
-/// Takes the levels of a call for `q` records and `m` levels, and appends those that fit.
-fn course_ahead(
-    ahead: &mut Ahead<'_>,
-    out: &mut Area<'_, i16>,
-    partial: bool,
-    q: usize,
-    m: usize,
-) -> Course
-    ensures is { result ≡ rep_course partial q m (coming ahead.old) }
-    ensures comes { result.faulty ≡ false → coming ahead.new ≡ after result.taken (coming ahead.old) }
-    ensures holds { result.faulty ≡ false → out.new ≡ appended out.old (map level (take (min result.taken (room_of out.old)) (coming ahead.old).numbers)) }
-    ensures back { blanked (pos 0) out.new out.old.count ≡ blanked (pos 0) out.old out.old.count }
-{
-    if q == 0 {
-        return Course {
-            faulty: false,
-            full: true,
-            taken: 0,
-            told: 0,
-            opened: partial,
-        };
-    }
-    walk_ahead(ahead, out, partial, q, m)
-}
-
-/// The same, and gives up what is to come and what was appended where the call is refused.
-fn take_ahead(
-    ahead: &mut Ahead<'_>,
-    out: &mut Area<'_, i16>,
-    partial: bool,
-    q: usize,
-    m: usize,
-) -> Course
-    ensures is { result ≡ rep_course partial q m (coming ahead.old) }
-    ensures comes { coming ahead.new ≡ left (room_of out.old) result (coming ahead.old) }
-    ensures holds { out.new ≡ area_after level (pos 0) result (coming ahead.old) out.old }
-{
-    let count = out.count;
-    let room = out.room();
-    let course = course_ahead(ahead, out, partial, q, m);
-    if is_refused(course, room) {
-        out.set_back(count);
-        ahead.restart(RunReader::empty());
-        return course;
-    }
-    course
-}
-
-/// The same without an area.
-fn pass_ahead(ahead: &mut Ahead<'_>, partial: bool, q: usize, m: usize) -> Course
-    ensures is { result ≡ rep_course partial q m (coming ahead.old) }
-    ensures comes { coming ahead.new ≡ left m result (coming ahead.old) }
-{
-    let mut nowhere = [0i16; 1];
-    let mut out = Area::new(&mut nowhere);
-    let course = course_ahead(ahead, &mut out, partial, q, m);
-    if is_refused(course, m) {
-        ahead.restart(RunReader::empty());
-        return course;
-    }
-    course
-}
-
 /// A decoder of repetition levels that works up to 1,024 levels ahead, which no reply shows.
-#[derive(Drop)]
-pub struct RepetitionLevelDecoderImpl<'a> {
-    max_level: i16,
-    ahead: Ahead<'a>,
-    partial: bool,
+pub type RepetitionLevelDecoderImpl<'a> = RepetitionDecoder<Ahead<'a>>;
+
+impl<'a> Ahead<'a> {
+    /// Takes levels from block to block, and appends those that fit.
+    fn walk_on(&mut self, out: &mut Area<'_, i16>, asked: Asked) -> Result<Course, StreamFault>
+        ensures is { result ≡ course_of asked (coming self.old) }
+        ensures comes { IfOk result (λ c. coming self.new ≡ after c.taken (coming self.old)) }
+        ensures holds { IfOk result (λ c. out.new ≡ appended out.old (map level (take (min c.taken (room_of out.old)) (coming self.old).numbers))) }
+        ensures back { blanked (pos 0) out.new out.old.count ≡ blanked (pos 0) out.old out.old.count }
+    {
+        let mut walk = Walk::none(asked.opened);
+        'walks: loop {
+            let rest = asked.behind(walk);
+            if rest.levels == 0 {
+                return Ok(walk.course(true));
+            }
+            let k = self.ready()?;
+            if k == 0 {
+                return Ok(walk.course(false));
+            }
+            let next = self.walk_held(k.min(rest.levels), rest);
+            self.hand_on(out, next.taken);
+            walk = walk.then(next);
+            if walk.stopped {
+                return Ok(walk.course(true));
+            }
+        }
+    }
 }
 
-impl<'a> ColumnLevelDecoder<'a> for RepetitionLevelDecoderImpl<'a> {
-    ghost rule = { levels };
+impl<'a> LevelSource<'a> for Ahead<'a> {
+    ghost stream = { coming };
 
-    ghost mask = { false };
-
-    ghost stream = { λ s. coming s.ahead };
-
-    ghost opened = { λ s. s.partial };
-
-    ghost maximum = { λ s. above_zero s.max_level };
-
-    fn new(max_level: i16) -> RepetitionLevelDecoderImpl<'a> {
-        RepetitionLevelDecoderImpl {
-            max_level,
-            ahead: Ahead::over(RunReader::empty()),
-            partial: false,
+    fn over(reader: RunReader<'a>) -> Ahead<'a> {
+        Ahead {
+            reader,
+            buffer: [0; 1024],
+            len: 0,
+            offset: 0,
         }
     }
 
-    fn set_data(&mut self, encoding: LevelEncoding, data: &'a [u8]) {
-        self.ahead
-            .restart(level_reader(self.max_level, encoding, data));
+    fn restart(&mut self, reader: RunReader<'a>) {
+        self.offset = 0;
+        self.len = 0;
+        self.reader = reader;
     }
-}
 
-impl<'a> RepetitionLevelDecoder<'a> for RepetitionLevelDecoderImpl<'a> {
-    fn read_rep_levels(
-        &mut self,
-        out: &mut Area<'_, i16>,
-        num_records: usize,
-        num_levels: usize,
-    ) -> Result<(usize, usize), LevelRefusal> {
+    fn take(&mut self, out: &mut Area<'_, i16>, asked: Asked) -> Result<Course, LevelRefusal> {
+        let count = out.count;
         let room = out.room();
-        let course = take_ahead(&mut self.ahead, out, self.partial, num_records, num_levels);
-        self.partial = is_open_after(course, room);
-        answer(course, room)
+        match admit(self.walk_on(out, asked), room) {
+            Ok(course) => Ok(course),
+            Err(refusal) => {
+                out.set_back(count);
+                self.restart(RunReader::empty());
+                Err(refusal)
+            }
+        }
     }
 
-    fn skip_rep_levels(
-        &mut self,
-        num_records: usize,
-        num_levels: usize,
-    ) -> Result<(usize, usize), LevelRefusal> {
-        let course = pass_ahead(&mut self.ahead, self.partial, num_records, num_levels);
-        self.partial = is_open_after(course, num_levels);
-        answer(course, num_levels)
-    }
-
-    fn flush_partial(&mut self) -> bool {
-        let partial = self.partial;
-        self.partial = false;
-        partial
+    fn pass(&mut self, asked: Asked) -> Result<Course, LevelRefusal> {
+        let mut nowhere = Area::missing();
+        match admit(self.walk_on(&mut nowhere, asked), asked.levels) {
+            Ok(course) => Ok(course),
+            Err(refusal) => {
+                self.restart(RunReader::empty());
+                Err(refusal)
+            }
+        }
     }
 }

@@ -2,17 +2,17 @@
 
 ghost use Rattle.std.specs.Prelude.{◌≡◌, false, pos};
 ghost use Rattle.level_bytes.specs.Cuts.{above_zero};
-ghost use Rattle.run.specs.Coming.{to_come};
 ghost use Rattle.area.specs.Areas.{room};
 ghost use Rattle.level.specs.Levels.{levels, level};
-ghost use Rattle.level.specs.Courses.{reply, left, open_after, area_after};
-ghost use Rattle.level.specs.Records.{rep_course};
+ghost use Rattle.level.specs.Columns.{rep_call, after_call};
+ghost use Rattle.level.specs.Courses.{reply, area_after};
 
-use crate::block::rep_course;
+use crate::asked::Asked;
 use crate::column::ColumnLevelDecoder;
+use crate::course::{answer, is_open_after};
 use crate::encoding::{LevelEncoding, level_reader};
 use crate::refusal::LevelRefusal;
-use crate::take::{deliver, is_open_after, pass};
+use crate::source::LevelSource;
 use area::area::Area;
 use run::reader::RunReader;
 
@@ -26,11 +26,9 @@ pub trait RepetitionLevelDecoder<'a>: ColumnLevelDecoder<'a> {
         num_records: usize,
         num_levels: usize,
     ) -> Result<(usize, usize), LevelRefusal>
-        ensures told { result ≡ reply (room out.old) (rep_course (Self.ColumnLevelDecoder.opened self.old) num_records num_levels (Self.ColumnLevelDecoder.stream self.old)) }
-        ensures comes { Self.ColumnLevelDecoder.stream self.new ≡ left (room out.old) (rep_course (Self.ColumnLevelDecoder.opened self.old) num_records num_levels (Self.ColumnLevelDecoder.stream self.old)) (Self.ColumnLevelDecoder.stream self.old) }
-        ensures closed { Self.ColumnLevelDecoder.opened self.new ≡ open_after (room out.old) (rep_course (Self.ColumnLevelDecoder.opened self.old) num_records num_levels (Self.ColumnLevelDecoder.stream self.old)) }
-        ensures holds { out.new ≡ area_after level (pos 0) (rep_course (Self.ColumnLevelDecoder.opened self.old) num_records num_levels (Self.ColumnLevelDecoder.stream self.old)) (Self.ColumnLevelDecoder.stream self.old) out.old }
-        ensures top { Self.ColumnLevelDecoder.maximum self.new ≡ Self.ColumnLevelDecoder.maximum self.old };
+        ensures told { result ≡ reply (room out.old) (rep_call num_records num_levels (Self.column self.old)) }
+        ensures stands { Self.column self.new ≡ after_call (room out.old) (rep_call num_records num_levels (Self.column self.old)) (Self.column self.old) }
+        ensures holds { out.new ≡ area_after level (pos 0) (rep_call num_records num_levels (Self.column self.old)) (Self.column self.old).levels out.old };
 
     /// Takes levels as `read_rep_levels` does, and leaves them out.
     fn skip_rep_levels(
@@ -38,61 +36,58 @@ pub trait RepetitionLevelDecoder<'a>: ColumnLevelDecoder<'a> {
         num_records: usize,
         num_levels: usize,
     ) -> Result<(usize, usize), LevelRefusal>
-        ensures told { result ≡ reply num_levels (rep_course (Self.ColumnLevelDecoder.opened self.old) num_records num_levels (Self.ColumnLevelDecoder.stream self.old)) }
-        ensures comes { Self.ColumnLevelDecoder.stream self.new ≡ left num_levels (rep_course (Self.ColumnLevelDecoder.opened self.old) num_records num_levels (Self.ColumnLevelDecoder.stream self.old)) (Self.ColumnLevelDecoder.stream self.old) }
-        ensures closed { Self.ColumnLevelDecoder.opened self.new ≡ open_after num_levels (rep_course (Self.ColumnLevelDecoder.opened self.old) num_records num_levels (Self.ColumnLevelDecoder.stream self.old)) }
-        ensures top { Self.ColumnLevelDecoder.maximum self.new ≡ Self.ColumnLevelDecoder.maximum self.old };
+        ensures told { result ≡ reply num_levels (rep_call num_records num_levels (Self.column self.old)) }
+        ensures stands { Self.column self.new ≡ after_call num_levels (rep_call num_records num_levels (Self.column self.old)) (Self.column self.old) };
 
     /// Closes an open record, and tells whether one was open.
     fn flush_partial(&mut self) -> bool
-        ensures told { result ≡ Self.ColumnLevelDecoder.opened self.old }
-        ensures closed { Self.ColumnLevelDecoder.opened self.new ≡ false }
-        ensures comes { Self.ColumnLevelDecoder.stream self.new ≡ Self.ColumnLevelDecoder.stream self.old }
-        ensures top { Self.ColumnLevelDecoder.maximum self.new ≡ Self.ColumnLevelDecoder.maximum self.old };
+        ensures told { result ≡ (Self.column self.old).opened }
+        ensures stands { Self.column self.new ≡ record (Self.column self.old) { opened = false } };
 }
 
-/// A decoder of repetition levels that never works ahead.
+/// A decoder of repetition levels from a source.
 #[derive(Drop)]
-pub struct PlainRepetitionDecoder<'a> {
+pub struct RepetitionDecoder<S> {
     max_level: i16,
-    reader: RunReader<'a>,
+    source: S,
     partial: bool,
 }
 
-impl<'a> ColumnLevelDecoder<'a> for PlainRepetitionDecoder<'a> {
+/// A decoder of repetition levels that never works ahead.
+pub type PlainRepetitionDecoder<'a> = RepetitionDecoder<RunReader<'a>>;
+
+impl<'a, S: LevelSource<'a> + Drop> ColumnLevelDecoder<'a> for RepetitionDecoder<S> {
     ghost rule = { levels };
 
     ghost mask = { false };
 
-    ghost stream = { λ s. to_come s.reader };
+    ghost column = { λ s. record { maximum = above_zero s.max_level; levels = S.stream s.source; opened = s.partial } };
 
-    ghost opened = { λ s. s.partial };
-
-    ghost maximum = { λ s. above_zero s.max_level };
-
-    fn new(max_level: i16) -> PlainRepetitionDecoder<'a> {
-        PlainRepetitionDecoder {
+    fn new(max_level: i16) -> RepetitionDecoder<S> {
+        RepetitionDecoder {
             max_level,
-            reader: RunReader::empty(),
+            source: S::over(RunReader::empty()),
             partial: false,
         }
     }
 
     fn set_data(&mut self, encoding: LevelEncoding, data: &'a [u8]) {
-        self.reader = level_reader(self.max_level, encoding, data);
+        self.source
+            .restart(level_reader(self.max_level, encoding, data));
     }
 }
 
-impl<'a> RepetitionLevelDecoder<'a> for PlainRepetitionDecoder<'a> {
+impl<'a, S: LevelSource<'a> + Drop> RepetitionLevelDecoder<'a> for RepetitionDecoder<S> {
     fn read_rep_levels(
         &mut self,
         out: &mut Area<'_, i16>,
         num_records: usize,
         num_levels: usize,
     ) -> Result<(usize, usize), LevelRefusal> {
-        let course = rep_course(self.reader, self.partial, num_records, num_levels);
-        self.partial = is_open_after(course, out.room());
-        deliver(&mut self.reader, out, course)
+        let asked = Asked::new(self.partial, num_records, num_levels);
+        let course = self.source.take(out, asked);
+        self.partial = is_open_after(course);
+        answer(course)
     }
 
     fn skip_rep_levels(
@@ -100,9 +95,10 @@ impl<'a> RepetitionLevelDecoder<'a> for PlainRepetitionDecoder<'a> {
         num_records: usize,
         num_levels: usize,
     ) -> Result<(usize, usize), LevelRefusal> {
-        let course = rep_course(self.reader, self.partial, num_records, num_levels);
-        self.partial = is_open_after(course, num_levels);
-        pass(&mut self.reader, course, num_levels)
+        let asked = Asked::new(self.partial, num_records, num_levels);
+        let course = self.source.pass(asked);
+        self.partial = is_open_after(course);
+        answer(course)
     }
 
     fn flush_partial(&mut self) -> bool {

@@ -1,24 +1,20 @@
-//! What the definitions of `specs/` are shown to say. Each function states one theorem by its contract; what it answers means nothing.
+//! What the definitions of `specs/` are shown to say. Each function states one theorem by its contract, and does nothing.
 
 ghost use Rattle.level.specs.Theorems.{RepAlike, DefAlike, Adds};
 
-/// Decoders of repetition levels whose states mean the same reply the same.
-pub fn repetition_alike() -> u8
-    ensures { RepAlike }
-{
-    0
-}
+use crate::definition::LevelKind;
 
-/// A decoder of levels and one of a mask reply the same.
-pub fn definition_alike() -> u8
-    ensures { DefAlike }
-{
-    0
-}
+/// Decoders of repetition levels whose states mean the same reply the same.
+pub fn repetition_alike()
+    ensures { RepAlike }
+{}
+
+/// Decoders of definition levels of any two kinds reply the same, as one of levels and one of a mask.
+pub fn definition_alike<A: LevelKind, B: LevelKind>()
+    ensures { DefAlike A B }
+{}
 
 /// Taking `n` definition levels and then `m` is taking `n + m`.
-pub fn calls_add_up() -> u8
+pub fn calls_add_up()
     ensures { Adds }
-{
-    0
-}
+{}

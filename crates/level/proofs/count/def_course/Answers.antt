@@ -1,22 +1,34 @@
-use Rattle.std.proofs.Common.{◌≡◌, arith, rules}
+use Rattle.std.proofs.Common.{◌≡◌, ℕ, ◌+◌, ◌-◌, List, ◌++◌, length, take, drop, ap, ◌∙◌, arith}
+use Rattle.std.proofs.Math.Seq.{take-add}
+use Rattle.std.proofs.lemmas.List.{length-drop, length-take}
+use Rattle.std.proofs.lemmas.List.Sums.{sum_by-append}
+use Rattle.stream.specs.Streams.{Stream}
 use Rattle.run.specs.Coming.{to_come}
-use Rattle.level_bytes.specs.Cuts.{above_zero}
-use Rattle.level.proofs.Counts.{def_ok, def_err, ok_given}
+use Rattle.run.specs.Reading.{given}
+use Rattle.level.specs.Courses.{equal_to}
+use Rattle.level.proofs.Blocks.{some_given, read_comes, block_holds}
 use Rattle.level.proofs.count.def_course.Goals as goal
 
-pub count_next-requires : goal.count_next-requires
-count_next-requires c = let e = ok_given c.args.m (to_come c.args.reader) c.in-Ok.k c.in-Ok.ensures.reply in omega (arith, e)
-
-pub returns-in-Ok : goal.returns-in-Ok
-returns-in-Ok c =
-    let e = ok_given c.args.m (to_come c.args.reader) c.in-Ok.k c.in-Ok.ensures.reply in
-    let t : c.top-max.result ≡ above_zero c.args.max_level = search rules in
+pub loop-taken-preserved : goal.loop-taken-preserved
+loop-taken-preserved c =
+    let s : Stream = to_come c.args.reader in
+    let u : Stream = to_come c.loop-taken.ahead in
+    let t : ℕ = c.loop-taken.taken in
+    let k : ℕ = c.in_ok-k.k in
+    let o : List ℕ = take c.min-size.result c.loop-taken.block in
+    let i = c.loop-taken.invariant in
+    let e : k ≡ given (length o) u = some_given (length o) u k c.in_ok-k.ensures.reply in
+    let l : length o ≡ c.min-size.result = simp length-take (omega (arith, i.block)) in
+    let h : length u.numbers ≡ length s.numbers - t = ap (λ z. length z.numbers) i.comes ∙ length-drop t s.numbers in
+    let b : take k (c.read_some.new.out ++ drop c.min-size.result c.loop-taken.block) ≡ take k (drop t s.numbers) =
+    block_holds k u o c.read_some.new.out (drop c.min-size.result c.loop-taken.block) e c.in_ok-k.ensures.filled ∙ ap (λ z. take k z.numbers) i.comes in
+    let n : equal_to c.args.max (take (t + k) s.numbers) ≡ equal_to c.args.max (take t s.numbers) + equal_to c.args.max (take k (drop t s.numbers)) =
+    ap (equal_to c.args.max) (take-add t k s.numbers) ∙ sum_by-append _ (take t s.numbers) (take k (drop t s.numbers)) in
     record {
-      is = def_ok c.args.m (to_come c.args.reader) (above_zero c.args.max_level) c.top-max.result c.in-Ok.k c.count_next.result c.in-Ok.ensures.reply t c.count_next.ensures;
-      there = omega (arith, e);
-      most = omega (arith, e);
+      comes = read_comes (length o) k t s u (to_come c.read_some.new.self) e i.comes c.in_ok-k.ensures.rest;
+      there = omega (arith, e, h, i.there);
+      most = omega (arith, e, l);
+      told = omega (arith, n, i.told, c.count_equal-told.ensures.is ∙ ap (equal_to c.args.max) b);
+      few = omega (arith, i.few, c.count_equal-told.ensures.most, length-take k (c.read_some.new.out ++ drop c.min-size.result c.loop-taken.block));
+      block = c.if-k-eq0.array_long;
     }
-
-pub returns-in-Err : goal.returns-in-Err
-returns-in-Err c =
-    record { is = def_err c.args.m (to_come c.args.reader) (above_zero c.args.max_level) _ c.in-Err.ensures.reply; there = omega arith; most = omega arith }

@@ -1,13 +1,14 @@
 -- Laws of numbers packed from the highest bit down.
-use Rattle.std.proofs.Common.{◌≡◌, ℕ, zero, suc, ◌+◌, ◌-◌, ◌*◌, ◌/◌, ◌%◌, ◌^◌, ◌<◌, ◌≤◌, List, [], ◌∷◌, ◌++◌, length, get_or, drop, sym, refl, ap, ◌∙◌, mul-le-mul_right, mul_assoc, suc-mul, mul_comm, add-mul, one-mul, pow-suc, mul-zero, zero-mul, mul-add, arith, pow-add}
+use Rattle.std.proofs.Common.{◌≡◌, ℕ, zero, suc, ◌+◌, ◌-◌, ◌*◌, ◌/◌, ◌%◌, ◌^◌, ◌<◌, ◌≤◌, List, [], ◌∷◌, ◌++◌, length, get_or, take, drop, sym, refl, ap, ◌∙◌, mul-le-mul_right, mul_assoc, suc-mul, mul_comm, add-mul, one-mul, pow-suc, mul-zero, zero-mul, mul-add, arith, pow-add}
 use lib.Bits.{bit_and}
 use Rattle.std.proofs.lemmas.Nat.{shr-shr, shl-shr, shr_high}
 use Rattle.std.proofs.lemmas.List.{length-drop, get_or-drop}
-use Rattle.stream.specs.Packing.{be, from_above, high_first}
+use Rattle.stream.specs.Packing.{le, be, from_above, high_first}
 use Rattle.run.specs.Packed.{highs}
-use Rattle.std.specs.Int.{from_be_bytes, w64}
+use Rattle.std.specs.Int.{swap_bytes, from_be_bytes, from_le_bytes, w64}
+use Rattle.std.proofs.lemmas.Nat.{le_bytes_8}
 use native.Mathlib.Nat.{mod-one}
-use Rattle.run.proofs.Laws.{Bytes, bytes_more, bits_field, masked}
+use Rattle.run.proofs.Laws.{Bytes, le_eight, bytes_more, bits_field, masked}
 
 -- the number in the first `n` bytes, highest byte first, with zeros behind the end
 abbrev front : ℕ → List ℕ → ℕ
@@ -111,20 +112,6 @@ front_eight (a ∷ (b ∷ (c ∷ (d ∷ (e ∷ (f ∷ [])))))) = omega arith
 front_eight (a ∷ (b ∷ (c ∷ (d ∷ (e ∷ (f ∷ (g ∷ []))))))) = omega arith
 front_eight (a ∷ (b ∷ (c ∷ (d ∷ (e ∷ (f ∷ (g ∷ (i ∷ t)))))))) = omega arith
 
-front_eight_at : (j : ℕ) (bs : List ℕ) → front 8 (drop j bs) ≡ get_or bs j 0 * 72057594037927936 + get_or bs (j + 1) 0 * 281474976710656 + get_or bs (j + 2) 0 * 1099511627776 + get_or bs (j + 3) 0 * 4294967296 + get_or bs (j + 4) 0 * 16777216 + get_or bs (j + 5) 0 * 65536 + get_or bs (j + 6) 0 * 256 + get_or bs (j + 7) 0
-front_eight_at j bs =
-    let z : j + 0 ≡ j = omega arith in
-    let g0 : get_or (drop j bs) 0 0 ≡ get_or bs j 0 = get_or-drop j bs 0 0 ∙ ap (λ i. get_or bs i 0) z in
-    let g1 = get_or-drop j bs 1 0 in
-    let g2 = get_or-drop j bs 2 0 in
-    let g3 = get_or-drop j bs 3 0 in
-    let g4 = get_or-drop j bs 4 0 in
-    let g5 = get_or-drop j bs 5 0 in
-    let g6 = get_or-drop j bs 6 0 in
-    let g7 = get_or-drop j bs 7 0 in
-    let e = front_eight (drop j bs) in
-    omega arith
-
 -- one number more
 pub above_more : (w m t x : ℕ) → from_above w (suc m) t x ≡ from_above w m t x ++ (x / 2 ^ (t - suc m * w) % 2 ^ w) ∷ []
 above_more w zero t x = let e : t - w ≡ t - 1 * w = omega (arith, one-mul w) in ap (λ k. x / 2 ^ k % 2 ^ w ∷ []) e
@@ -150,19 +137,34 @@ highs_at w a n i bs h =
     get_or-drop a (high_first w (a + n) bs) i 0
     ∙ (above_at w (a + n) (8 * length bs) (be bs) (a + i) (omega arith) ∙ ap (λ k. be bs / 2 ^ (8 * length bs - k) % 2 ^ w) e)
 
--- what eight bytes hold that stand at `j`, highest first, with zeros behind the end
-be_read : (bs win : List ℕ) (j x : ℕ) → ((k : ℕ) → k < 8 → get_or win k 0 ≡ get_or bs (j + k) 0) → x ≡ from_be_bytes w64 win → x ≡ front 8 (drop j bs)
-be_read bs win j x h e =
-    let z : j + 0 ≡ j = omega arith in
-    let h0 : get_or win 0 0 ≡ get_or bs j 0 = h 0 (omega arith) ∙ ap (λ i. get_or bs i 0) z in
-    omega (arith, front_eight_at j bs, h 1 (omega arith), h 2 (omega arith), h 3 (omega arith), h 4 (omega arith), h 5 (omega arith), h 6 (omega arith), h 7 (omega arith))
+-- the eight bytes in front as a list, with zeros behind the end
+abbrev eight : List ℕ → List ℕ
+eight ds = get_or ds 0 0 ∷ get_or ds 1 0 ∷ get_or ds 2 0 ∷ get_or ds 3 0 ∷ get_or ds 4 0 ∷ get_or ds 5 0 ∷ get_or ds 6 0 ∷ get_or ds 7 0 ∷ []
 
--- a number is read off such bytes
-pub high_read : (bs win : List ℕ) (at b w x : ℕ) → Bytes bs → b ≡ w → b ≤ 32 → at + w ≤ 8 * length bs
-    → ((k : ℕ) → k < 8 → get_or win k 0 ≡ get_or bs (at / 8 + k) 0) → x ≡ from_be_bytes w64 win
-    → bit_and (x / 2 ^ (64 - at % 8 - b)) ((1 * 2 ^ b) % 18446744073709551616 - 1) ≡ be bs / 2 ^ (8 * length bs - (at + w)) % 2 ^ w
-high_read bs win at b w x h q l k g e =
-    high_field bs (at / 8) (at % 8) b (at + b) x h (omega arith) (omega arith) (omega arith) (omega arith) (be_read bs win (at / 8) x g e)
+eight_bytes : (ds : List ℕ) → Bytes ds → Bytes (eight ds)
+eight_bytes ds h zero = h 0
+eight_bytes ds h (suc zero) = h 1
+eight_bytes ds h (suc (suc zero)) = h 2
+eight_bytes ds h (suc (suc (suc zero))) = h 3
+eight_bytes ds h (suc (suc (suc (suc zero)))) = h 4
+eight_bytes ds h (suc (suc (suc (suc (suc zero))))) = h 5
+eight_bytes ds h (suc (suc (suc (suc (suc (suc zero)))))) = h 6
+eight_bytes ds h (suc (suc (suc (suc (suc (suc (suc zero))))))) = h 7
+eight_bytes ds h (suc (suc (suc (suc (suc (suc (suc (suc i)))))))) = omega arith
+
+-- eight bytes that are read lowest first, turned around
+turned : (ds : List ℕ) (x : ℕ) → Bytes ds → x ≡ le (take 8 ds) → swap_bytes w64 x ≡ front 8 ds
+turned ds x h e =
+    let f : x ≡ from_le_bytes w64 (eight ds) = omega (arith, le_eight ds) in
+    let g : from_be_bytes w64 (eight ds) ≡ front 8 ds = omega (arith, front_eight ds) in
+    ap (from_be_bytes w64) (le_bytes_8 (eight ds) x refl (eight_bytes ds h) f) ∙ g
+
+-- a number is read off the eight bytes around it
+pub high_read : (bs : List ℕ) (at b w x y : ℕ) → Bytes bs → b ≡ w → b ≤ 32 → at + w ≤ 8 * length bs → x ≡ le (take 8 (drop (at / 8) bs)) → y ≡ swap_bytes w64 x
+    → bit_and (y / 2 ^ (64 - at % 8 - b)) ((1 * 2 ^ b) % 18446744073709551616 - 1) ≡ be bs / 2 ^ (8 * length bs - (at + w)) % 2 ^ w
+high_read bs at b w x y h q l k e g =
+    let d : Bytes (drop (at / 8) bs) = λ i. omega (arith, h (at / 8 + i), get_or-drop (at / 8) bs i 0) in
+    high_field bs (at / 8) (at % 8) b (at + b) y h (omega arith) (omega arith) (omega arith) (omega arith) (g ∙ turned (drop (at / 8) bs) x d e)
     ∙ ap (λ v. be bs / 2 ^ (8 * length bs - (at + v)) % 2 ^ v) q
 
 -- a number of no bits

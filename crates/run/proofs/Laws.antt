@@ -6,7 +6,6 @@ use Rattle.std.proofs.lemmas.Nat.{shr-shr, and_mask, one_shl}
 use Rattle.std.proofs.lemmas.List.{append-nil, append_assoc, drop_all, take_all, take-append-drop, take_more_set, map_more, map-append, get_or-drop, drop-drop}
 use Rattle.std.proofs.lemmas.Slice.{take-put_mid}
 use Rattle.std.proofs.Math.Seq.{take-add}
-use Rattle.std.specs.Int.{from_le_bytes, w64}
 use borrow.Rule.Slice.PartMut.{put_mid, post_of}
 use Rattle.stream.specs.Packing.{le, from_below, low_first}
 use Rattle.run.specs.Packed.{lows}
@@ -67,7 +66,7 @@ le_window n j s w bs h l =
     ∙ (ap (λ x. x / 2 ^ s % 2 ^ w) (le_drop j bs h ∙ le_split n d) ∙ bits_field (le (take n d)) (8 * n) s w (le (drop n d)) l))
 
 -- the eight bytes in front, with zeros behind the end
-le_eight : (bs : List ℕ) → le (take 8 bs) ≡ get_or bs 0 0 + get_or bs 1 0 * 256 + get_or bs 2 0 * 65536 + get_or bs 3 0 * 16777216 + get_or bs 4 0 * 4294967296 + get_or bs 5 0 * 1099511627776 + get_or bs 6 0 * 281474976710656 + get_or bs 7 0 * 72057594037927936
+pub le_eight : (bs : List ℕ) → le (take 8 bs) ≡ get_or bs 0 0 + get_or bs 1 0 * 256 + get_or bs 2 0 * 65536 + get_or bs 3 0 * 16777216 + get_or bs 4 0 * 4294967296 + get_or bs 5 0 * 1099511627776 + get_or bs 6 0 * 281474976710656 + get_or bs 7 0 * 72057594037927936
 le_eight [] = refl
 le_eight (a ∷ []) = omega arith
 le_eight (a ∷ (b ∷ [])) = omega arith
@@ -77,20 +76,6 @@ le_eight (a ∷ (b ∷ (c ∷ (d ∷ (e ∷ []))))) = omega arith
 le_eight (a ∷ (b ∷ (c ∷ (d ∷ (e ∷ (f ∷ [])))))) = omega arith
 le_eight (a ∷ (b ∷ (c ∷ (d ∷ (e ∷ (f ∷ (g ∷ []))))))) = omega arith
 le_eight (a ∷ (b ∷ (c ∷ (d ∷ (e ∷ (f ∷ (g ∷ (i ∷ t)))))))) = omega arith
-
-le_eight_at : (j : ℕ) (bs : List ℕ) → le (take 8 (drop j bs)) ≡ get_or bs j 0 + get_or bs (j + 1) 0 * 256 + get_or bs (j + 2) 0 * 65536 + get_or bs (j + 3) 0 * 16777216 + get_or bs (j + 4) 0 * 4294967296 + get_or bs (j + 5) 0 * 1099511627776 + get_or bs (j + 6) 0 * 281474976710656 + get_or bs (j + 7) 0 * 72057594037927936
-le_eight_at j bs =
-    let z : j + 0 ≡ j = omega arith in
-    let g0 : get_or (drop j bs) 0 0 ≡ get_or bs j 0 = get_or-drop j bs 0 0 ∙ ap (λ i. get_or bs i 0) z in
-    let g1 = get_or-drop j bs 1 0 in
-    let g2 = get_or-drop j bs 2 0 in
-    let g3 = get_or-drop j bs 3 0 in
-    let g4 = get_or-drop j bs 4 0 in
-    let g5 = get_or-drop j bs 5 0 in
-    let g6 = get_or-drop j bs 6 0 in
-    let g7 = get_or-drop j bs 7 0 in
-    let e = le_eight (drop j bs) in
-    omega arith
 
 -- one number more
 pub below_more : (w m x : ℕ) → from_below w (suc m) x ≡ from_below w m x ++ (x / 2 ^ (m * w) % 2 ^ w) ∷ []
@@ -147,18 +132,10 @@ below_at w (suc n) x (suc i) h =
     let q : w + i * w ≡ suc i * w = omega (arith, suc-mul i w) in
     below_at w n (x / 2 ^ w) i (omega arith) ∙ ap (λ y. y % 2 ^ w) (shr-shr x w (i * w) ∙ ap (λ k. x / 2 ^ k) q)
 
--- what eight bytes hold that stand at `j`, with zeros behind the end
-le_read : (bs win : List ℕ) (j x : ℕ) → ((k : ℕ) → k < 8 → get_or win k 0 ≡ get_or bs (j + k) 0) → x ≡ from_le_bytes w64 win → x ≡ le (take 8 (drop j bs))
-le_read bs win j x h e =
-    let z : j + 0 ≡ j = omega arith in
-    let h0 : get_or win 0 0 ≡ get_or bs j 0 = h 0 (omega arith) ∙ ap (λ i. get_or bs i 0) z in
-    omega (arith, le_eight_at j bs, h 1 (omega arith), h 2 (omega arith), h 3 (omega arith), h 4 (omega arith), h 5 (omega arith), h 6 (omega arith), h 7 (omega arith))
-
--- a number is read off such bytes
-pub low_read : (bs win : List ℕ) (at b w x : ℕ) → Bytes bs → b ≡ w → b ≤ 32 → ((k : ℕ) → k < 8 → get_or win k 0 ≡ get_or bs (at / 8 + k) 0) → x ≡ from_le_bytes w64 win
+-- a number is read off the eight bytes around it
+pub low_read : (bs : List ℕ) (at b w x : ℕ) → Bytes bs → b ≡ w → b ≤ 32 → x ≡ le (take 8 (drop (at / 8) bs))
     → bit_and (x / 2 ^ (at % 8)) ((1 * 2 ^ b) % 18446744073709551616 - 1) ≡ le bs / 2 ^ at % 2 ^ w
-low_read bs win at b w x h q l g e =
-    low_field bs (at / 8) (at % 8) b at x h (omega arith) (omega arith) (omega arith) (le_read bs win (at / 8) x g e) ∙ ap (λ v. le bs / 2 ^ at % 2 ^ v) q
+low_read bs at b w x h q l e = low_field bs (at / 8) (at % 8) b at x h (omega arith) (omega arith) (omega arith) e ∙ ap (λ v. le bs / 2 ^ at % 2 ^ v) q
 
 pub lows_at : (w a n i : ℕ) (bs : List ℕ) → i < n → get_or (lows w a n bs) i 0 ≡ le bs / 2 ^ ((a + i) * w) % 2 ^ w
 lows_at w a n i bs h = get_or-drop a (low_first w (a + n) bs) i 0 ∙ below_at w (a + n) (le bs) (a + i) (omega arith)

@@ -15,6 +15,6 @@ pub(crate) fn high_bits(bytes: &[u8], at: usize, width: Width) -> u32
     if width == 0 {
         return 0;
     }
-    let x = u64::from_be_bytes(window(bytes, at / 8)) >> (64 - at % 8 - width as usize);
+    let x = window(bytes, at / 8).swap_bytes() >> (64 - at % 8 - width as usize);
     (x & ((1 << width) - 1)) as u32
 }

@@ -15,7 +15,7 @@ pub(crate) fn low_bits(bytes: &[u8], at: usize, width: Width) -> u32
     requires { at + width.bits ≤ 8 * length bytes.now }
     ensures { result ≡ le bytes.now / 2 ^ at % 2 ^ width.bits }
 {
-    let x = u64::from_le_bytes(window(bytes, at / 8)) >> (at % 8);
+    let x = window(bytes, at / 8) >> (at % 8);
     (x & ((1 << width.bits()) - 1)) as u32
 }
 

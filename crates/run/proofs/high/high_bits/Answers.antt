@@ -7,5 +7,5 @@ returns-then-width-eq0 c = high_none _ c.args.width.bits (omega arith)
 
 pub returns : goal.returns
 returns c =
-    high_read c.args.bytes.now c.window.result c.args.at c.bits-width.result c.args.width.bits c.from_be_bytes.result (λ k. omega (arith, c.type_inv.bytes k)) c.bits-width.ensures.is
-    c.bits-width.ensures.small c.requires c.window.ensures c.from_be_bytes.ensures
+    high_read c.args.bytes.now c.args.at c.bits-width.result c.args.width.bits c.window.result c.swap_bytes.result (λ k. omega (arith, c.type_inv.bytes k)) c.bits-width.ensures.is
+    c.bits-width.ensures.small c.requires c.window.ensures c.swap_bytes.ensures

@@ -1,27 +1,18 @@
 -- Laws of levels that were read ahead.
 use Rattle.std.proofs.Common.{◌≡◌, ℕ, ◌+◌, ◌-◌, ◌≤◌, min, List, ◌++◌, map, length, take, drop, sym, ap, ◌∙◌, inl, inr, arith}
 use Rattle.std.proofs.Math.Seq.{take-add}
-use Rattle.std.proofs.lemmas.List.{append-nil, map-append, take-take, take-append-le, drop-append-le, drop-drop, drop-take, length-append, length-map, length-take, length-drop}
+use Rattle.std.proofs.lemmas.List.{append-nil, map-append, drop-append-le, drop-drop, drop-take, length-map, length-take, length-drop}
 use Rattle.std.proofs.lemmas.Bool.{cases_lt}
 use Rattle.stream.specs.Streams.{Stream}
 use Rattle.run.specs.Reading.{after, onto}
 use Rattle.area.specs.declared.area.Area.{Area}
 use Rattle.area.specs.Areas.{room, appended, blanked}
-use Rattle.area.proofs.Appending.{appended_none, appended_room, appended_twice, appended_blanked}
+use Rattle.area.proofs.Appending.{appended_room, appended_twice, appended_blanked}
 
 -- what a buffer holds from the place `o` to the place `l`, in front of the stream `r`
 module _ (b : List ℕ) (o l : ℕ) (r : Stream) (h : o ≤ l) (k : l ≤ length b) where
   pub held_length : length (take (l - o) (drop o b)) ≡ l - o
   held_length = simp (length-take, length-drop) (omega arith)
-
-  pub held_there : l - o ≤ length (take (l - o) (drop o b) ++ r.numbers)
-  held_there = omega (arith, held_length, length-append (take (l - o) (drop o b)) r.numbers)
-
-  pub held_front : (n : ℕ) → n ≤ l - o → take ((o + n) - o) (drop o b) ≡ take n (take (l - o) (drop o b) ++ r.numbers)
-  held_front n j =
-      let e : (o + n) - o ≡ n = omega arith in
-      ap (λ (i : ℕ). take i (drop o b)) e
-      ∙ (sym (take-take n (l - o) (drop o b) j) ∙ sym (take-append-le n (take (l - o) (drop o b)) r.numbers (omega (arith, held_length))))
 
   pub held_rest : (n : ℕ) → n ≤ l - o → onto (take (l - (o + n)) (drop (o + n) b)) r ≡ after n (onto (take (l - o) (drop o b)) r)
   held_rest n j =
@@ -58,6 +49,3 @@ area_back {X} f b a z ns t e =
     let xs : List X = map f (take (min t (room a)) ns) in
     let lx : length xs ≡ min (min t (room a)) (length ns) = length-map (take (min t (room a)) ns) f ∙ length-take (min t (room a)) ns in
     ap (λ (w : Area X). blanked b w a.count) e ∙ appended_blanked b a xs a.count (omega (arith, lx)) (omega arith)
-
-pub area_none : {X : Type 0} (f : ℕ → X) (a : Area X) (ns : List ℕ) → a ≡ appended a (map f (take (min 0 (room a)) ns))
-area_none f a ns = let e : min 0 (room a) ≡ 0 = omega arith in sym (ap (λ (j : ℕ). appended a (map f (take j ns))) e ∙ appended_none a)

@@ -1,36 +1,16 @@
 -- Laws of streams, and of blocks that are read.
-use Rattle.std.proofs.Common.{◌≡◌, ℕ, ◌+◌, ◌<◌, ◌≤◌, min, true, false, ltb, List, [], ◌++◌, map, length, take, drop, Ok, Err, Result, sym, refl, ap, ◌∙◌, inl, inr, arith}
-use Rattle.std.proofs.lemmas.List.{append_assoc, append-nil, drop_all, drop-drop, take_all, take_at, map-id, length-map, length-take, nil_from_length}
-use Rattle.std.proofs.lemmas.Bool.{ltb-true, le-ltb, lt-ltb, and_parts, and_from, and_left, and_right, cases_Bool, cases_lt, cond-true, cond-false}
-use Rattle.stream.specs.Streams.{Stream, End, ended, clean, fault}
+use Rattle.std.proofs.Common.{◌≡◌, ℕ, ◌+◌, ◌≤◌, min, false, ltb, List, ◌++◌, map, length, take, drop, Ok, Err, Result, sym, ap, ◌∙◌, inl, inr, arith}
+use Rattle.std.proofs.lemmas.List.{append_assoc, drop_all, drop-drop, take_all, take_at, map-id, length-map, length-take}
+use Rattle.std.proofs.lemmas.Bool.{le-ltb, and_left, cases_Bool, cases_lt, cond-true, cond-false}
+use Rattle.stream.specs.Streams.{Stream}
 use Rattle.run.specs.declared.kind.StreamFault.{StreamFault}
 use Rattle.run.specs.Reading.{is_fault, fails, given, after, rest, filled, some_of}
-
-fault_is : (e : End) → is_fault e ≡ true → e ≡ fault
-fault_is clean h = cc
-fault_is fault h = refl
-
-clean_is : (e : End) → is_fault e ≡ false → e ≡ clean
-clean_is clean h = refl
-clean_is fault h = cc
-
-pub ended_by : (s : Stream) (e : End) → s.numbers ≡ [] → s.end ≡ e → s ≡ ended e
-ended_by s e p q = ap (λ (xs : List ℕ). record { numbers = xs; end = s.end }) p ∙ ap (λ (x : End). record { numbers = []; end = x }) q
 
 pub there_fails : (n : ℕ) (s : Stream) → n ≤ length s.numbers → fails n s ≡ false
 there_fails n s h = and_left (ltb (length s.numbers) n) (is_fault s.end) (le-ltb (length s.numbers) n h)
 
-pub fault_fails : (n : ℕ) (s : Stream) → length s.numbers < n → s.end ≡ fault → fails n s ≡ true
-fault_fails n s h e = and_from (ltb (length s.numbers) n) (is_fault s.end) (lt-ltb (length s.numbers) n h) (ap is_fault e)
-
-pub clean_fails : (n : ℕ) (s : Stream) → s.end ≡ clean → fails n s ≡ false
-clean_fails n s e = and_right (ltb (length s.numbers) n) (is_fault s.end) (ap is_fault e)
-
 pub there_rest : (n : ℕ) (s : Stream) → n ≤ length s.numbers → rest n s ≡ after n s
 there_rest n s h = cond-false (fails n s) s (after n s) (there_fails n s h)
-
-pub there_filled : {X : Type 0} (f : ℕ → X) (s : Stream) (o : List X) → length o ≤ length s.numbers → filled f s o ≡ map f (take (length o) s.numbers)
-there_filled f s o h = ap (λ z. map f (take (length o) s.numbers) ++ z) (drop_all (length s.numbers) o h) ∙ append-nil (map f (take (length o) s.numbers))
 
 pub after_after : (n m : ℕ) (s : Stream) → after m (after n s) ≡ after (n + m) s
 after_after n m s = ap (λ (xs : List ℕ). record { numbers = xs; end = s.end }) (drop-drop m n s.numbers)
@@ -57,21 +37,6 @@ module _ (m : ℕ) (s : Stream) where
   some_given k e = elim (cases_Bool (fails (min 1 m) s)) [
     | inl t ↦ (let p : ◌≡◌ {A = Result ℕ StreamFault} (Ok k) (Err (record {})) = e ∙ cond-true (fails (min 1 m) s) _ _ t in cc)
     | inr f ↦ (let p : ◌≡◌ {A = Result ℕ StreamFault} (Ok k) (Ok (given m s)) = e ∙ cond-false (fails (min 1 m) s) _ _ f in cc)
-  ]
-
-  pub some_clean : ◌≡◌ {A = Result ℕ StreamFault} (Ok 0) (some_of m s) → 0 < m → s ≡ ended clean
-  some_clean e h =
-      let n = some_given 0 e in
-      elim (cases_Bool (is_fault s.end)) [
-        | inl t ↦ (let p : ◌≡◌ {A = Result ℕ StreamFault} (Ok 0) (Err (record {})) = e ∙ cond-true (fails (min 1 m) s) _ _ (and_from (ltb (length s.numbers) (min 1 m)) (is_fault s.end) (lt-ltb (length s.numbers) (min 1 m) (omega arith)) t) in cc)
-        | inr f ↦ ended_by s clean (nil_from_length s.numbers (omega arith)) (clean_is s.end f)
-      ]
-
-  pub some_fault : (x : StreamFault) → ◌≡◌ {A = Result ℕ StreamFault} (Err x) (some_of m s) → s ≡ ended fault
-  some_fault x e = elim (cases_Bool (fails (min 1 m) s)) [
-    | inl t ↦ (let p = and_parts (ltb (length s.numbers) (min 1 m)) (is_fault s.end) t in
-        ended_by s fault (nil_from_length s.numbers (omega (arith, ltb-true (length s.numbers) (min 1 m) p.0))) (fault_is s.end p.1))
-    | inr f ↦ (let p : ◌≡◌ {A = Result ℕ StreamFault} (Err x) (Ok (given m s)) = e ∙ cond-false (fails (min 1 m) s) _ _ f in cc)
   ]
 
 -- what a block holds then

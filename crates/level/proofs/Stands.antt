@@ -1,31 +1,23 @@
 -- Laws of a call for records, a block at a time.
-use Rattle.std.proofs.Common.{◌≡◌, ℕ, ◌+◌, ◌-◌, ◌<◌, ◌≤◌, Bool, true, false, not, ◌&&◌, ◌||◌, eqb, List, [], ◌++◌, length, take, drop, Ok, Result, sym, refl, ap, subst, ◌∙◌, arith}
+use Rattle.std.proofs.Common.{◌≡◌, ℕ, ◌+◌, ◌-◌, ◌<◌, ◌≤◌, Bool, true, false, not, ◌&&◌, ◌||◌, eqb, List, ◌++◌, length, take, drop, Ok, Result, sym, ap, subst, ◌∙◌, arith}
 use Rattle.std.proofs.Math.Seq.{take-add}
-use Rattle.std.proofs.lemmas.List.{take_all, length-take, length-drop}
-use Rattle.std.proofs.lemmas.Bool.{eq-eqb, cond-true, cond-false, ne_eqb}
-use Rattle.stream.specs.Streams.{Stream, ended, clean, fault}
+use Rattle.std.proofs.lemmas.List.{length-take, length-drop}
+use Rattle.std.proofs.lemmas.Bool.{cond-false}
+use Rattle.stream.specs.Streams.{Stream}
 use Rattle.run.specs.declared.kind.StreamFault.{StreamFault}
 use Rattle.run.specs.Reading.{fails, given, after, filled, some_of}
 use Rattle.level.specs.declared.asked.Asked.{Asked}
 use Rattle.level.specs.declared.walk.Walk.{Walk}
 use Rattle.level.specs.declared.course.Course.{Course}
 use Rattle.level.specs.Courses.{broken}
-use Rattle.level.specs.Records.{joined, none, walk, found, by_walk, course_of}
-use Rattle.level.proofs.Blocks.{some_given, block_holds, there_fails, fault_fails, clean_fails, after_after}
-use Rattle.level.proofs.Walks.{so_far, same_walk, joined_none, joined_assoc, walk_few, walk_most, walk_length, walk_whole, walk_stopped, walk_on}
+use Rattle.level.specs.Records.{joined, walk, found, by_walk, course_of}
+use Rattle.level.proofs.Blocks.{some_given, block_holds, after_after}
+use Rattle.level.proofs.Walks.{joined_assoc, walk_few, walk_length, walk_whole, walk_stopped, walk_on}
 
 module _ (w : Walk) (m : ℕ) (s : Stream) where
   by_stop : w.stopped ≡ true → by_walk w m s ≡ Ok (found w true)
   by_stop e =
       cond-false (not w.stopped && fails m s) broken _ (ap (λ b. not b && fails m s) e)
-      ∙ ap (λ (b : Bool). Ok (found w (b || eqb w.taken m))) e
-
-  by_bad : w.stopped ≡ false → fails m s ≡ true → by_walk w m s ≡ broken
-  by_bad e f = cond-true (not w.stopped && fails m s) broken _ (ap (λ b. not b && fails m s) e ∙ f)
-
-  by_good : w.stopped ≡ false → fails m s ≡ false → by_walk w m s ≡ Ok (found w (eqb w.taken m))
-  by_good e f =
-      cond-false (not w.stopped && fails m s) broken _ (ap (λ b. not b && fails m s) e ∙ f)
       ∙ ap (λ (b : Bool). Ok (found w (b || eqb w.taken m))) e
 
 -- A call for records stands behind the walk `w`, and `u` is to come.
@@ -44,56 +36,9 @@ pub record Next (a : Asked) (w : Walk) (u : Stream) (n : ℕ) (next : Walk) : Ty
   pub there : n ≤ length u.numbers
   pub walked : next ≡ walk w.opened (a.records - w.closed) (take n u.numbers)
 
-pub stands_none : (a : Asked) (s : Stream) → Stands a s (none a.opened) s
-stands_none a s =
-    let q : a.records ≡ a.records - 0 = omega arith in
-    let m : a.levels ≡ a.levels - 0 = omega arith in
-    record {
-      walked = sym (joined_none a.opened (walk a.opened a.records (take a.levels s.numbers)))
-          ∙ (ap (λ (j : ℕ). joined (none a.opened) (walk a.opened j (take a.levels s.numbers))) q ∙ ap (λ (j : ℕ). joined (none a.opened) (walk a.opened (a.records - 0) (take j s.numbers))) m);
-      comes = refl;
-      there = omega arith;
-      levels = omega arith;
-      records = omega arith;
-      some = a.some;
-    }
-
 module _ (a : Asked) (s : Stream) (w : Walk) (u : Stream) (z : Stands a s w u) where
   left_is : length u.numbers ≡ length s.numbers - w.taken
   left_is = ap (λ t. length t.numbers) z.comes ∙ length-drop w.taken s.numbers
-
-  end_is : s.end ≡ u.end
-  end_is = sym (ap (λ t. t.end) z.comes)
-
-  stands_here : take (a.levels - w.taken) u.numbers ≡ [] → walk a.opened a.records (take a.levels s.numbers) ≡ so_far w.taken w.closed w.opened
-  stands_here e = z.walked ∙ (ap (λ (xs : List ℕ). joined w (walk w.opened (a.records - w.closed) xs)) e ∙ same_walk _ _ _ _ w.opened false (omega arith) (omega arith))
-
-  -- it took all
-  pub here_full : a.levels - w.taken ≡ 0 → course_of a s ≡ Ok (found w true)
-  here_full e =
-      let t : w.taken ≡ a.levels = omega (arith, z.levels) in
-      ap (λ (x : Walk). by_walk x a.levels s) (stands_here (ap (λ (j : ℕ). take j u.numbers) e))
-      ∙ (by_good (so_far w.taken w.closed w.opened) a.levels s refl (there_fails a.levels s (omega (arith, z.there)))
-      ∙ ap (λ (b : Bool). Ok (found w b)) (eq-eqb w.taken a.levels t))
-
-  -- the stream is at its end
-  none_left : u.numbers ≡ [] → length s.numbers ≡ w.taken
-  none_left e = omega (arith, left_is, ap length e, z.there)
-
-  nothing : u.numbers ≡ [] → take (a.levels - w.taken) u.numbers ≡ []
-  nothing e = ap (take (a.levels - w.taken)) e ∙ take_all (a.levels - w.taken) [] (omega arith)
-
-  pub here_fault : u ≡ ended fault → w.taken < a.levels → course_of a s ≡ broken
-  here_fault e h =
-      let n = ap (λ t. t.numbers) e in
-      ap (λ (x : Walk). by_walk x a.levels s) (stands_here (nothing n))
-      ∙ by_bad (so_far w.taken w.closed w.opened) a.levels s refl (fault_fails a.levels s (omega (arith, none_left n, h)) (end_is ∙ ap (λ t. t.end) e))
-
-  pub here_clean : u ≡ ended clean → w.taken < a.levels → course_of a s ≡ Ok (found w false)
-  here_clean e h =
-      ap (λ (x : Walk). by_walk x a.levels s) (stands_here (nothing (ap (λ t. t.numbers) e)))
-      ∙ (by_good (so_far w.taken w.closed w.opened) a.levels s refl (clean_fails a.levels s (end_is ∙ ap (λ t. t.end) e))
-      ∙ ap (λ (b : Bool). Ok (found w b)) (ne_eqb w.taken a.levels (λ t. omega (arith, t, h))))
 
   -- the next `n` levels are walked over
   module _ (n : ℕ) (next : Walk) (x : Next a w u n next) where
@@ -117,9 +62,6 @@ module _ (a : Asked) (s : Stream) (w : Walk) (u : Stream) (z : Stands a s w u) w
 
     pub next_taken : next.taken ≤ n
     next_taken = omega (arith, ap (λ x. x.taken) e, walk_length w.opened (a.records - w.closed) (take n u.numbers), length-take n u.numbers)
-
-    pub next_closed : w.closed + next.closed ≤ a.records
-    next_closed = let f = few in omega (arith, ap (λ x. x.closed) e, walk_most w.opened (a.records - w.closed) (take n u.numbers) (omega arith))
 
     pub next_there : w.taken + next.taken ≤ length s.numbers
     next_there = omega (arith, next_taken, left_is, k, z.there)

@@ -161,12 +161,15 @@ turned ds x h e =
 
 -- a number is read off the eight bytes around it
 pub high_read : (bs : List ℕ) (at b w x y : ℕ) → Bytes bs → b ≡ w → b ≤ 32 → at + w ≤ 8 * length bs → x ≡ le (take 8 (drop (at / 8) bs)) → y ≡ swap_bytes w64 x
-    → bit_and (y / 2 ^ (64 - at % 8 - b)) ((1 * 2 ^ b) % 18446744073709551616 - 1) ≡ be bs / 2 ^ (8 * length bs - (at + w)) % 2 ^ w
-high_read bs at b w x y h q l k e g =
+    → bit_and (y / 2 ^ ((64 - at % 8 - b) % 64)) ((1 * 2 ^ b) % 18446744073709551616 - 1) ≡ be bs / 2 ^ (8 * length bs - (at + w)) % 2 ^ w
+high_read bs at zero w x y h q l k e g =
+    let t : ℕ = (64 - at % 8 - 0) % 64 in
+    let z : ℕ = be bs / 2 ^ (8 * length bs - (at + w)) in
+    masked (y / 2 ^ t) 0 (omega arith) ∙ (mod-one (y / 2 ^ t) ∙ sym (ap (λ v. z % 2 ^ v) (sym q) ∙ mod-one z))
+high_read bs at (suc c) w x y h q l k e g =
+    let b : ℕ = suc c in
     let d : Bytes (drop (at / 8) bs) = λ i. omega (arith, h (at / 8 + i), get_or-drop (at / 8) bs i 0) in
-    high_field bs (at / 8) (at % 8) b (at + b) y h (omega arith) (omega arith) (omega arith) (omega arith) (g ∙ turned (drop (at / 8) bs) x d e)
-    ∙ ap (λ v. be bs / 2 ^ (8 * length bs - (at + v)) % 2 ^ v) q
-
--- a number of no bits
-pub high_none : (x w : ℕ) → 0 ≡ w → 0 ≡ x % 2 ^ w
-high_none x w e = sym (ap (λ k. x % 2 ^ k) (sym e) ∙ mod-one x)
+    let s : (64 - at % 8 - b) % 64 ≡ 64 - at % 8 - b = omega arith in
+    ap (λ j. bit_and (y / 2 ^ j) ((1 * 2 ^ b) % 18446744073709551616 - 1)) s
+    ∙ (high_field bs (at / 8) (at % 8) b (at + b) y h (omega arith) (omega arith) (omega arith) (omega arith) (g ∙ turned (drop (at / 8) bs) x d e)
+    ∙ ap (λ v. be bs / 2 ^ (8 * length bs - (at + v)) % 2 ^ v) q)

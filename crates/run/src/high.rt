@@ -12,9 +12,8 @@ pub(crate) fn high_bits(bytes: &[u8], at: usize, width: Width) -> u32
     ensures { result ≡ be bytes.now / 2 ^ (8 * length bytes.now - (at + width.bits)) % 2 ^ width.bits }
 {
     let width = width.bits();
-    if width == 0 {
-        return 0;
-    }
-    let x = window(bytes, at / 8).swap_bytes() >> (64 - at % 8 - width as usize);
+    // At width 0 the mask leaves nothing, and the shift, which could be by 64, is by less.
+    let shift = (64 - at % 8 - width as usize) % 64;
+    let x = window(bytes, at / 8).swap_bytes() >> shift;
     (x & ((1 << width) - 1)) as u32
 }

@@ -79,6 +79,7 @@ impl<'a> Part<'a> {
     }
 
     /// Writes the numbers, one at a time.
+    #[inline(always)]
     pub(crate) fn one_by_one<T: Number>(self, out: &mut [T])
         requires { length out.old ≡ self.count }
         ensures { out.new ≡ map T.Number.from (numbers self.entry) }

@@ -1,9 +1,6 @@
 use Rattle.std.proofs.Common.{arith}
-use Rattle.run.proofs.Highs.{high_read, high_none}
+use Rattle.run.proofs.Highs.{high_read}
 use Rattle.run.proofs.high.high_bits.Goals as goal
-
-pub returns-then-width-eq0 : goal.returns-then-width-eq0
-returns-then-width-eq0 c = high_none _ c.args.width.bits (omega arith)
 
 pub returns : goal.returns
 returns c =

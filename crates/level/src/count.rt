@@ -37,15 +37,11 @@ pub(crate) fn def_course(reader: RunReader<'_>, max: u32, m: usize) -> Result<Co
 /// How many of the levels equal the maximum.
 fn count_equal(levels: &[u32], max: u32) -> usize
     requires { length levels.now ≤ 1024 }
-    ensures is { result ≡ equal_to max levels.now }
-    ensures most { result ≤ length levels.now }
+    ensures { result ≡ equal_to max levels.now }
 {
     // A narrow count, so that lanes of levels are counted at a time.
-    let mut n: u32 = 0;
-    for level in levels {
-        if *level == max {
-            n += 1;
-        }
-    }
-    n as usize
+    levels
+        .iter()
+        .map(|level| u32::from(*level == max))
+        .sum::<u32>() as usize
 }

@@ -14,23 +14,6 @@ use element::blank::Blank;
 use element::number::Number;
 use run::reader::RunReader;
 
-/// Reads as many levels as there are places, which are all there.
-pub(crate) fn take_all<T: Number>(reader: &mut RunReader<'_>, out: &mut [T])
-    requires { length out.old ≤ length (to_come reader.old).numbers }
-    ensures filled { out.new ≡ map T.Number.from (take (length out.old) (to_come reader.old).numbers) }
-    ensures comes { to_come reader.new ≡ after (length out.old) (to_come reader.old) }
-{
-    let _ = reader.read(out);
-}
-
-/// Skips `n` levels, which are all there.
-pub(crate) fn skip_all(reader: &mut RunReader<'_>, n: usize)
-    requires { n ≤ length (to_come reader.old).numbers }
-    ensures { to_come reader.new ≡ after n (to_come reader.old) }
-{
-    let _ = reader.skip(n);
-}
-
 /// Appends the next `n` levels, which are there and fit.
 fn append<T: Number>(reader: &mut RunReader<'_>, out: &mut Area<'_, T>, n: usize)
     requires there { n ≤ length (to_come reader.old).numbers }
@@ -39,7 +22,8 @@ fn append<T: Number>(reader: &mut RunReader<'_>, out: &mut Area<'_, T>, n: usize
     ensures comes { to_come reader.new ≡ after n (to_come reader.old) }
 {
     let at = out.len();
-    take_all(reader, &mut out.slice[at..at + n]);
+    // All of them are there, so that the reply says nothing.
+    let _ = reader.read(&mut out.slice[at..at + n]);
     out.advance(n);
 }
 
@@ -67,7 +51,7 @@ pub(crate) fn deliver<T: Number + Blank>(
         Ok(course) => {
             let n = course.taken.min(out.room());
             append(reader, out, n);
-            skip_all(reader, course.taken - n);
+            let _ = reader.skip(course.taken - n);
         }
         Err(_) => give_up(reader, out),
     }
@@ -79,7 +63,9 @@ pub(crate) fn pass(reader: &mut RunReader<'_>, course: Result<Course, LevelRefus
     ensures { to_come reader.new ≡ left_of course (to_come reader.old) }
 {
     match course {
-        Ok(course) => skip_all(reader, course.taken),
+        Ok(course) => {
+            let _ = reader.skip(course.taken);
+        }
         Err(_) => *reader = RunReader::empty(),
     }
 }

@@ -1,13 +1,16 @@
-use Rattle.std.proofs.Common.{◌≡◌, ℕ, ◌+◌, ◌-◌, List, ◌++◌, length, take, drop, ap, ◌∙◌, arith}
+use Rattle.std.proofs.Common.{◌≡◌, ℕ, ◌+◌, ◌-◌, ◌≤◌, List, ◌++◌, length, take, drop, ap, ◌∙◌, arith}
 use Rattle.std.proofs.Math.Seq.{take-add}
 use Rattle.std.proofs.lemmas.List.{length-drop, length-take}
-use Rattle.std.proofs.lemmas.List.Sums.{sum_by-append}
+use Rattle.std.proofs.lemmas.List.Sums.{count_by-le-length, sum_by-append}
 use Rattle.stream.specs.Streams.{Stream}
 use Rattle.run.specs.Coming.{to_come}
 use Rattle.run.specs.Reading.{given}
 use Rattle.level.specs.Courses.{equal_to}
 use Rattle.level.proofs.Blocks.{some_given, read_comes, block_holds}
 use Rattle.level.proofs.count.def_course.Goals as goal
+
+equal_most : (max : ℕ) (xs : List ℕ) → equal_to max xs ≤ length xs
+equal_most max xs = count_by-le-length _ xs
 
 pub loop-taken-preserved : goal.loop-taken-preserved
 loop-taken-preserved c =
@@ -28,7 +31,7 @@ loop-taken-preserved c =
       comes = read_comes (length o) k t s u (to_come c.read_some.new.self) e i.comes c.in_ok-k.ensures.rest;
       there = omega (arith, e, h, i.there);
       most = omega (arith, e, l);
-      told = omega (arith, n, i.told, c.count_equal-told.ensures.is ∙ ap (equal_to c.args.max) b);
-      few = omega (arith, i.few, c.count_equal-told.ensures.most, length-take k (c.read_some.new.out ++ drop c.min-size.result c.loop-taken.block));
+      told = omega (arith, n, i.told, c.count_equal-told.ensures ∙ ap (equal_to c.args.max) b);
+      few = omega (arith, i.few, c.count_equal-told.ensures, equal_most c.args.max (take k (c.read_some.new.out ++ drop c.min-size.result c.loop-taken.block)), length-take k (c.read_some.new.out ++ drop c.min-size.result c.loop-taken.block));
       block = c.if-k-eq0.array_long;
     }

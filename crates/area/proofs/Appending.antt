@@ -3,10 +3,10 @@ use Rattle.std.proofs.Common.{◌≡◌, ℕ, ◌+◌, ◌-◌, ◌<◌, ◌≤�
 use lib.Seq.{paste}
 use Rattle.area.specs.declared.area.Area.{Area}
 use Rattle.area.specs.Areas.{cells, room, counted, filled, appended, blanked}
-use Rattle.area.proofs.Holding.{take_within, held}
+use Rattle.area.proofs.Holding.{held}
 use Rattle.std.proofs.lemmas.List.Edits.{paste_none, paste_all, paste-paste, length-paste, take-paste}
 use Rattle.std.proofs.lemmas.Bool.Decides.{leb_tells}
-use Rattle.std.proofs.lemmas.List.{append-nil, length-take, length-append, take_all, take-take, take-append-le, nil_from_length}
+use Rattle.std.proofs.lemmas.List.{take_min, append-nil, length-take, length-append, take_all, take-take, take-append-le, nil_from_length}
 
 -- nothing appended changes nothing
 pub appended_none : {X : Type 0} (a : Area X) → appended a [] ≡ a
@@ -33,9 +33,9 @@ appended_counted a xs h = let l = appended_length a xs h in omega (arith, l)
 -- it stands behind what was filled
 pub appended_filled : {X : Type 0} (a : Area X) (xs : List X) → length xs ≤ room a → filled (appended a xs) ≡ filled a ++ xs
 appended_filled {X} a xs h = elim (leb_tells a.count (length (cells a))) [
-  | inl p ↦ take_within (a.count + length xs) (cells (appended a xs))
+  | inl p ↦ take_min (a.count + length xs) (cells (appended a xs))
       ∙ (take-paste (cells a) a.count xs (length xs) p.1 (omega arith)
-      ∙ (ap (λ t. take a.count (cells a) ++ t) (take_all (length xs) xs (omega arith)) ∙ ap (λ t. t ++ xs) (sym (take_within a.count (cells a)))))
+      ∙ (ap (λ t. take a.count (cells a) ++ t) (take_all (length xs) xs (omega arith)) ∙ ap (λ t. t ++ xs) (sym (take_min a.count (cells a)))))
   | inr p ↦ ap (λ (ys : List X). filled (appended a ys)) (nothing a xs h p.1)
       ∙ (ap (λ (b : Area X). filled b) (appended_none a)
       ∙ (sym (append-nil (filled a)) ∙ ap (λ (ys : List X). filled a ++ ys) (sym (nothing a xs h p.1))))

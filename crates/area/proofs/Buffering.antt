@@ -3,28 +3,17 @@ use Rattle.std.proofs.Common.{◌≡◌, ℕ, suc, ◌<◌, ◌≤◌, Bool, tru
 use Rattle.area.specs.Val.{Val}
 use Rattle.area.specs.Buffers.{Laws, longest}
 
-and_left : (a b : Bool) → (a && b) ≡ true → a ≡ true
-and_left true b h = refl
-and_left false b h = h
-
-and_right : (a b : Bool) → (a && b) ≡ true → b ≡ true
-and_right true b h = h
-and_right false b h = cc
-
-and_both : (a b : Bool) → a ≡ true → b ≡ true → (a && b) ≡ true
-and_both a b p q = ap (λ (x : Bool). x && b) p ∙ q
-
 module _ {St : Type 0} {appended : St → List Val → St} {fits : St → List Val → Bool} {count : St → ℕ} {blanked : St → ℕ → St} (laws : Laws appended fits count blanked) where
   -- a front of what fits does, then the rest does
   pub fits_front : (s : St) (xs ys : List Val) → fits s (xs ++ ys) ≡ true → fits s xs ≡ true
-  fits_front s xs ys h = and_left (fits s xs) (fits (appended s xs) ys) (sym (laws.fits_more s xs ys) ∙ h)
+  fits_front s xs ys h = let e = laws.fits_more s xs ys in grind arith
 
   pub fits_rest : (s : St) (xs ys : List Val) → fits s (xs ++ ys) ≡ true → fits (appended s xs) ys ≡ true
-  fits_rest s xs ys h = and_right (fits s xs) (fits (appended s xs) ys) (sym (laws.fits_more s xs ys) ∙ h)
+  fits_rest s xs ys h = let e = laws.fits_more s xs ys in grind arith
 
   -- what fits, and then fits again, fits as a whole
   pub fits_both : (s : St) (xs ys : List Val) → fits s xs ≡ true → fits (appended s xs) ys ≡ true → fits s (xs ++ ys) ≡ true
-  fits_both s xs ys p q = laws.fits_more s xs ys ∙ and_both (fits s xs) (fits (appended s xs) ys) p q
+  fits_both s xs ys p q = let e = laws.fits_more s xs ys in grind arith
 
 -- the longest front is one
 pub longest_within : (fits : List Val → Bool) (vs : List Val) → longest fits vs ≤ length vs

@@ -7,21 +7,11 @@ use Rattle.area.specs.Areas.{cells, room, counted, holding, appended, advanced, 
 use Rattle.std.proofs.lemmas.Slice.{take-put_mid_below}
 use Rattle.std.proofs.lemmas.List.Edits.{paste_all}
 use Rattle.std.proofs.lemmas.Bool.Decides.{leb_tells}
-use Rattle.std.proofs.lemmas.List.{append-nil, append_assoc, drop_all, drop_more, set_at, replicate_more, length-replicate, drop-append-le, take-append-drop, length-drop, length-take, length-append, drop-drop, take_all}
-
--- one turn of a loop that writes `x` everywhere, and its end
-pub fill_step : {X : Type 0} (x : X) (xs : List X) (i : ℕ) → i < length xs → set (replicate i x ++ drop i xs) i x ≡ replicate (i + 1) x ++ drop (i + 1) xs
-fill_step x xs i h = ap (λ t. set (replicate i x ++ t) i x) (drop_more xs i x h) ∙ set_at (replicate i x) (get_or xs i x) (drop (i + 1) xs) x i (length-replicate i x) ∙ (sym (append_assoc (replicate i x) (x ∷ []) (drop (i + 1) xs)) ∙ ap (λ t. t ++ drop (i + 1) xs) (replicate_more i x))
-
-pub fill_done : {X : Type 0} (x : X) (xs : List X) (i : ℕ) → length xs ≡ i → replicate i x ++ drop i xs ≡ replicate (length xs) x
-fill_done x xs i h = ap (λ t. replicate i x ++ t) (drop_all i xs (omega arith)) ∙ append-nil (replicate i x) ∙ ap (λ n. replicate n x) (sym h)
+use Rattle.std.proofs.lemmas.List.{take_min, append-nil, append_assoc, drop_all, drop_more, set_at, replicate_more, length-replicate, drop-append-le, take-append-drop, length-drop, length-take, length-append, drop-drop, take_all}
 
 -- a front and a rest at a place past the end are those at the end
 pub take_within : {X : Type 0} (k : ℕ) (xs : List X) → take (min k (length xs)) xs ≡ take k xs
-take_within k xs = elim (leb_tells k (length xs)) [
-  | inl p ↦ ap (λ (j : ℕ). take j xs) (omega (arith, p.1))
-  | inr p ↦ take_all (min k (length xs)) xs (omega (arith, p.1)) ∙ sym (take_all k xs (omega (arith, p.1)))
-]
+take_within k xs = take_min k xs
 
 -- what a write of `zs` to `s[at..at + n]` leaves, where there is room for it behind the count `c`
 pub wrote : {X : Type 0} (c at n : ℕ) (xs ys zs : List X) → at ≡ min c (length xs) → length zs ≡ n → n ≤ length xs - c → ys ≡ zs
@@ -40,28 +30,9 @@ wrote c at n xs ys zs a l h e =
     ∙ (ap (λ k. take c xs ++ (zs ++ drop (c + k) xs)) (sym l)
     ∙ sym (paste_all xs c zs (length zs) refl)))))
 
--- what a write of `zs` to `s[at..]` leaves
-pub wrote_rest : {X : Type 0} (at : ℕ) (xs ys zs : List X) → ys ≡ zs → at ≤ length xs → put_mid at (length xs - at) xs ys ≡ take at xs ++ zs
-wrote_rest at xs ys zs e h = ap (λ t. take at xs ++ t) (ap (λ t. ys ++ t) (drop_all (length xs - at) (drop at xs) (simp length-drop (omega arith))) ∙ append-nil ys ∙ e)
-
 -- the same memory with the same elements and count
 pub held : {X : Type 0} (a : Area X) (m n : ℕ) (ys zs : List X) → ys ≡ zs → m ≡ n → holding a ys m ≡ holding a zs n
 held {X} a m n ys zs e f = ap (λ (ws : List X). holding a ws m) e ∙ ap (λ (k : ℕ). holding a zs k) f
-
--- `zs` written behind the count, and counted
-pub append_is : {X : Type 0} (a : Area X) (at n : ℕ) (ys zs : List X) → at ≡ counted a → length zs ≡ n → n ≤ room a → ys ≡ zs
-    → holding a (put_mid at ((at + n) - at) (cells a) ys) (a.count + n) ≡ appended a zs
-append_is a at n ys zs p l h e = held a _ _ _ _ (wrote a.count at n (cells a) ys zs p l h e) (ap (λ k. a.count + k) (sym l))
-
--- the blank `b` written from the place `at` on, and the count set to `m`
-pub blank_is_lem : {X : Type 0} (b d : X) (a : Area X) (m at : ℕ) (ys : List X) → at ≡ min m (length (cells a)) → d ≡ b → ys ≡ replicate (length (take (length (cells a) - at) (drop at (cells a)))) d
-    → holding a (put_mid at (length (cells a) - at) (cells a) ys) m ≡ blank_from b a m
-blank_is_lem {X} b d a m at ys p f e =
-    let xs = cells a in
-    let k : length (take (length xs - at) (drop at xs)) ≡ length xs - m = simp (length-take, length-drop) (omega (arith, p)) in
-    let front : take at xs ≡ take m xs = ap (λ (j : ℕ). take j xs) p ∙ take_within m xs in
-    let back : ys ≡ replicate (length xs - m) b = e ∙ (ap (λ (j : ℕ). replicate j d) k ∙ ap (λ (z : X). replicate (length xs - m) z) f) in
-    held a _ _ _ _ (wrote_rest at xs ys _ back (omega (arith, p)) ∙ ap (λ t. t ++ replicate (length xs - m) b) front) refl
 
 -- A part `[at..at + m]` behind the count was lent on, and holds `zs` and then what it held; the area was then advanced by them: they are appended.
 pub lent_part : {X : Type 0} (a : Area X) (at m k : ℕ) (zs ys : List X) → at ≡ counted a → length zs ≡ k → k ≤ m → m ≤ room a

@@ -8,10 +8,10 @@ use Rattle.area.specs.Val.{Val}
 use Rattle.area.specs.Buffers.{longest}
 use Rattle.area.specs.Lent.{Lent, lent, more, free, has_room, set_back}
 use Rattle.area.proofs.Appending.{appended_none}
-use Rattle.area.proofs.Holding.{take_within}
+use Rattle.std.proofs.Math.Dec.{leb-suc-suc}
 use Rattle.std.proofs.lemmas.List.Edits.{take-paste, drop-paste}
 use Rattle.std.proofs.lemmas.Bool.Decides.{leb_tells}
-use Rattle.std.proofs.lemmas.List.{append-nil, drop_all, length-replicate, length-drop, length-take, length-append, length-map, take_all, take-take, take_at, drop_at, drop-drop, map-append, take-map, drop-map, nil_from_length}
+use Rattle.std.proofs.lemmas.List.{take_min, drop_min, append-nil, drop_all, length-replicate, length-drop, length-take, length-append, length-map, take_all, take-take, take_at, drop_at, drop-drop, map-append, take-map, drop-map, nil_from_length}
 
 abbrev shown : List Val → List Val → Bool → ℕ → Lent
 shown f b t w = record { filled = f; behind = b; there = t; who = w }
@@ -38,12 +38,6 @@ shows_room m a xs h = ap (leb (length xs)) (sym (free_is m a h)) ∙ ap (λ (k :
 more_none : (l : Lent) → more l [] ≡ l
 more_none l = alike _ _ _ _ l.there l.who (append-nil l.filled) refl
 
-drop_within : {X : Type 0} (k : ℕ) (xs : List X) → drop (min k (length xs)) xs ≡ drop k xs
-drop_within k xs = elim (leb_tells k (length xs)) [
-  | inl p ↦ (let e : min k (length xs) ≡ k = omega (arith, p.1) in ap (λ (j : ℕ). drop j xs) e)
-  | inr p ↦ drop_all (min k (length xs)) xs (omega (arith, p.1)) ∙ sym (drop_all k xs (omega (arith, p.1)))
-]
-
 append_within : {X : Type 0} (m : X → Val) (a : Area X) (xs : List X) → a.count ≤ length (cells a) → lent m (appended a xs) ≡ more (lent m a) (map m xs)
 append_within m a xs h =
     let c = a.count in
@@ -51,7 +45,7 @@ append_within m a xs h =
     let ys = cells a in
     let zs = paste ys c xs n in
     let front : take (min (c + n) (length zs)) zs ≡ take (min c (length ys)) ys ++ xs =
-    take_within (c + n) zs ∙ (take-paste ys c xs n h (omega arith) ∙ (ap (λ t. take c ys ++ t) (take_all n xs (omega arith)) ∙ ap (λ t. t ++ xs) (sym (take_within c ys)))) in
+    take_min (c + n) zs ∙ (take-paste ys c xs n h (omega arith) ∙ (ap (λ t. take c ys ++ t) (take_all n xs (omega arith)) ∙ ap (λ t. t ++ xs) (sym (take_min c ys)))) in
     let back : drop (c + n) zs ≡ drop n (drop c ys) = drop-paste ys c xs n h (omega arith) ∙ sym (drop-drop n c ys) in
     alike _ _ _ _ a.there a.slice.ghost_name
     (ap (map m) front ∙ map-append m (take (min c (length ys)) ys) xs)
@@ -70,25 +64,16 @@ pub shows_append_all : {X : Type 0} (m : X → Val) (a z : Area X) (xs : List X)
 shows_append_all m a z xs true p e = ap (lent m) e ∙ shows_append m a xs (elim (leb_tells (length xs) (room a)) [ inl q ↦ q.1 | inr q ↦ (let y : ◌≡◌ {A = Bool} true false = p ∙ q.0 in absurd (let o : ◌≡◌ {A = ℕ} 0 1 = cc in omega arith)) ])
 shows_append_all m a z xs false p e = ap (lent m) e
 
-leb_suc : (a b : ℕ) → leb (suc a) (suc b) ≡ leb a b
-leb_suc a b = elim (leb_tells a b) [
-  | inl p ↦ le-leb (suc a) (suc b) (omega (arith, p.1)) ∙ sym p.0
-  | inr p ↦ lt-leb (suc a) (suc b) (omega (arith, p.1)) ∙ sym p.0
-]
-
 -- how many values of the front fit, where a number of them fits
 pub longest_is : (fits : List Val → Bool) (vs : List Val) (r : ℕ) → ((ws : List Val) → fits ws ≡ leb (length ws) r) → longest fits vs ≡ min (length vs) r
 longest_is fits [] r h = omega arith
 longest_is fits (v ∷ vs) zero h = ap (λ (b : Bool). cond b (suc (longest (λ ws. fits (v ∷ ws)) vs)) 0) (h (v ∷ []) ∙ lt-leb 1 0 (omega arith)) ∙ omega arith
 longest_is fits (v ∷ vs) (suc r) h =
-    let e = longest_is (λ ws. fits (v ∷ ws)) vs r (λ ws. h (v ∷ ws) ∙ leb_suc (length ws) r) in
+    let e = longest_is (λ ws. fits (v ∷ ws)) vs r (λ ws. h (v ∷ ws) ∙ leb-suc-suc (length ws) r) in
     ap (λ (b : Bool). cond b (suc (longest (λ ws. fits (v ∷ ws)) vs)) 0) (h (v ∷ []) ∙ le-leb 1 (suc r) (omega arith)) ∙ omega (arith, e)
 
-take_min : {X : Type 0} (n c : ℕ) (xs : List X) → take n (take c xs) ≡ take (min n c) xs
-take_min n c xs = elim (leb_tells n c) [
-  | inl p ↦ (let e : n ≡ min n c = omega (arith, p.1) in take-take n c xs p.1 ∙ ap (λ (j : ℕ). take j xs) e)
-  | inr p ↦ (let e : c ≡ min n c = omega (arith, p.1) in take_all n (take c xs) (simp length-take (omega (arith, p.1))) ∙ ap (λ (j : ℕ). take j xs) e)
-]
+take_twice : {X : Type 0} (n c : ℕ) (xs : List X) → take n (take c xs) ≡ take (min n c) xs
+take_twice n c xs = grind (arith, take-take, take_all, length-take)
 
 map_replicate : {X : Type 0} (m : X → Val) (n : ℕ) (x : X) → map m (replicate n x) ≡ replicate n (m x)
 map_replicate m zero x = refl
@@ -105,19 +90,15 @@ shows_blank {X} m b a n =
     let lz : length zs ≡ l = simp (length-append, length-take, length-replicate) (omega arith) in
     let lt : length (take k xs) ≡ min k l = length-take k xs in
     let front : take (min k (length zs)) zs ≡ take n (take (min c l) xs) =
-    ap (λ (j : ℕ). take (min k j) zs) lz ∙ (take_at (take k xs) (replicate (l - k) b) (min k l) lt ∙ (sym (take_min n c xs) ∙ ap (take n) (sym (take_within c xs)))) in
+    ap (λ (j : ℕ). take (min k j) zs) lz ∙ (take_at (take k xs) (replicate (l - k) b) (min k l) lt ∙ (sym (take_twice n c xs) ∙ ap (take n) (sym (take_min c xs)))) in
     let back : drop k zs ≡ replicate (l - k) b =
-    sym (drop_within k zs) ∙ (ap (λ (j : ℕ). drop (min k j) zs) lz ∙ drop_at (take k xs) (replicate (l - k) b) (min k l) lt) in
+    sym (drop_min k zs) ∙ (ap (λ (j : ℕ). drop (min k j) zs) lz ∙ drop_at (take k xs) (replicate (l - k) b) (min k l) lt) in
     let f = filled_length m a in
     let g = behind_length m a in
     let many : l - k ≡ (length (map m (filled a)) - n) + length (map m (drop c xs)) = omega (arith, f, g) in
     alike _ _ _ _ a.there a.slice.ghost_name
     (ap (map m) front ∙ sym (take-map m n (take (min c l) xs)))
     (ap (map m) back ∙ (map_replicate m (l - k) b ∙ ap (λ (j : ℕ). replicate j (m b)) many))
-
--- whether elements fit is whether their values do
-pub slice_reply : {X : Type 0} (m : X → Val) (a : Area X) (xs : List X) (r : Bool) → length (cells a) ≤ 18446744073709551615 → r ≡ leb (length xs) (room a) → r ≡ has_room (lent m a) (map m xs)
-slice_reply m a xs r h e = e ∙ shows_room m a xs h
 
 -- as many elements as there is room for are the longest front that fits
 pub front_reply : {X : Type 0} (m : X → Val) (a : Area X) (xs : List X) (n r : ℕ) → length (cells a) ≤ 18446744073709551615 → r ≡ room a → n ≡ min (length xs) r → n ≡ longest (has_room (lent m a)) (map m xs)
@@ -126,11 +107,9 @@ front_reply m a xs n r h p e =
     let l = longest_is (has_room (lent m a)) (map m xs) (room a) (λ ws. ap (leb (length ws)) (free_is m a h)) in
     omega (arith, k, l)
 
-pub front_after : {X : Type 0} (m : X → Val) (a z : Area X) (xs : List X) (n r : ℕ) (b : Bool) → r ≡ room a → n ≡ min (length xs) r → b ≡ leb (length (take (n - 0) xs)) (room a) → z ≡ cond b (appended a (take (n - 0) xs)) a
+pub front_after : {X : Type 0} (m : X → Val) (a z : Area X) (xs : List X) (n r : ℕ) (b : Bool) → r ≡ room a → n ≡ min (length xs) r → b ≡ leb (length (take n xs)) (room a) → z ≡ cond b (appended a (take n xs)) a
     → lent m z ≡ more (lent m a) (map m (take n xs))
 front_after {X} m a z xs n r b p e f s =
-    let t : n - 0 ≡ n = omega arith in
-    let y : List X = take (n - 0) xs in
-    let small : length y ≤ room a = simp length-take (omega arith) in
-    let yes : b ≡ true = f ∙ le-leb (length y) (room a) small in
-    shows_append_all m a z y b f s ∙ (ap (λ (c : Bool). cond c (more (lent m a) (map m y)) (lent m a)) yes ∙ ap (λ (j : ℕ). more (lent m a) (map m (take j xs))) t)
+    let small : length (take n xs) ≤ room a = simp length-take (omega arith) in
+    let yes : b ≡ true = f ∙ le-leb (length (take n xs)) (room a) small in
+    shows_append_all m a z (take n xs) b f s ∙ ap (λ (c : Bool). cond c (more (lent m a) (map m (take n xs))) (lent m a)) yes

@@ -1,6 +1,6 @@
 //! Lent memory with a filled count.
 
-ghost use Rattle.std.specs.Prelude.{◌≡◌, ◌≤◌, true, false, not, [], length, replicate, is_ok, if◌then◌else◌, nat_le};
+ghost use Rattle.std.specs.Prelude.{◌≡◌, ◌≤◌, true, false, not, [], length, replicate, is_ok, OkIff, if◌then◌else◌, nat_le};
 ghost use Rattle.area.specs.Areas.{filled as filled_part, counted, room as room_of, appended, advanced, blank_from, blanked, emptied};
 
 use crate::fill::fill_all;
@@ -8,6 +8,7 @@ use element::blank::Blank;
 
 /// Lent memory, of which the first `count` elements are filled. It is `there`, or tells that it is
 /// missing.
+// Kept: memory is lent with its count, for nothing here allocates; in an `Option` each call would unwrap it.
 #[derive(Drop)]
 pub struct Area<'b, T> {
     pub slice: &'b mut [T],
@@ -16,7 +17,7 @@ pub struct Area<'b, T> {
 }
 
 /// Fewer elements are free than were to be appended.
-#[derive(Clone, Copy)]
+#[derive(Clone, Copy, Debug, PartialEq, Eq)]
 pub struct NoRoom;
 
 impl<'b, T> Area<'b, T> {
@@ -74,8 +75,20 @@ impl<'b, T> Area<'b, T> {
         &self.slice[0..self.len()]
     }
 
+    /// Where `n` more elements go, if there is room for them.
+    fn place(&self, n: usize) -> Result<usize, NoRoom>
+        ensures { OkIff result (n ≤ room_of self.now) (counted self.now) }
+    {
+        if self.room() < n {
+            return Err(NoRoom);
+        }
+        // A count past the end has no room behind it, but is no place in the slice either.
+        Ok(self.len())
+    }
+
     /// Counts `k` more elements as filled, or as many as there is room for. They were written
     /// through the part behind the count, lent on as `&mut area.slice[at..]`.
+    // Kept: tried, but what a method leaves that lends this part on has no proof.
     pub fn advance(&mut self, k: usize)
         ensures { self.new ≡ advanced self.old k }
     {
@@ -89,10 +102,9 @@ impl<'b, T: Copy> Area<'b, T> {
         ensures fits { is_ok result ≡ nat_le (length xs.now) (room_of self.old) }
         ensures after { self.new ≡ (if is_ok result then appended self.old xs.now else self.old) }
     {
-        if self.room() < xs.len() {
-            return Err(NoRoom);
-        }
-        self.write(xs);
+        let at = self.place(xs.len())?;
+        self.slice[at..at + xs.len()].copy_from_slice(xs);
+        self.count += xs.len();
         Ok(())
     }
 
@@ -101,33 +113,10 @@ impl<'b, T: Copy> Area<'b, T> {
         ensures fits { is_ok result ≡ nat_le n (room_of self.old) }
         ensures after { self.new ≡ (if is_ok result then appended self.old (replicate n x) else self.old) }
     {
-        if self.room() < n {
-            return Err(NoRoom);
-        }
-        self.write_copies(n, x);
-        Ok(())
-    }
-
-    /// Writes elements behind the count, and counts them.
-    fn write(&mut self, xs: &[T])
-        requires { length xs.now ≤ room_of self.old }
-        ensures { self.new ≡ appended self.old xs.now }
-    {
-        // A count past the end has no room behind it, but is no place in the slice either.
-        let at = self.len();
-        let n = xs.len();
-        self.slice[at..at + n].copy_from_slice(xs);
-        self.count += n;
-    }
-
-    /// Writes copies of `x` behind the count, and counts them.
-    fn write_copies(&mut self, n: usize, x: T)
-        requires { n ≤ room_of self.old }
-        ensures { self.new ≡ appended self.old (replicate n x) }
-    {
-        let at = self.len();
+        let at = self.place(n)?;
         fill_all(&mut self.slice[at..at + n], x);
         self.count += n;
+        Ok(())
     }
 }
 

@@ -52,9 +52,6 @@ pub trait ValuesBuffer<T: DataType> {
     // Whether it tells that it is missing.
     ghost missing: { State → Bool };
 
-    // What each kind keeps to.
-    ghost laws: { Laws appended fits count blanked };
-
     /// How many values are appended.
     fn len(&self) -> usize
         ensures { result ≡ count (state self.now) };
@@ -76,4 +73,7 @@ pub trait ValuesBuffer<T: DataType> {
     /// Sets the count back to `n`, or leaves it where it is less; all behind it is blank then.
     fn set_back(&mut self, n: usize)
         ensures { state self.new ≡ blanked (state self.old) n };
+
+    // What each kind keeps to.
+    ghost laws: { Laws appended fits count blanked };
 }

@@ -3,6 +3,7 @@
 ghost use Rattle.std.specs.Prelude.{◌≡◌, false, pos};
 
 /// Elements of a kind that tells a blank.
+// Kept: over `Default`, whose value has no name, each kind would give its blank and a proof.
 pub trait Blank: Copy {
     // The blank of this kind.
     ghost blank_is: { Self };

@@ -3,6 +3,7 @@
 ghost use Rattle.std.specs.Prelude.{◌≡◌, not, ℕ, ◌%◌, eqb, pos};
 
 /// An element that numbers of a stream are read into.
+// Kept: `From<u32>` for `i16` and `bool` is not this crate's to write.
 pub trait Number: Copy {
     ghost from: { ℕ → Self };
 

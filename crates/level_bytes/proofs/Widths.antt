@@ -1,9 +1,8 @@
--- The bits of a number, and the number in four bytes.
-use Rattle.std.proofs.Common.{◌≡◌, ℕ, zero, suc, ◌+◌, ◌-◌, ◌*◌, ◌/◌, ◌^◌, ◌<◌, ◌≤◌, false, List, [], ◌∷◌, length, get_or, ℤ, pos, negsuc, nat_abs, sym, refl, ap, ◌∙◌, subst, pow-suc, arith, lit<, w16, SFits, to_z, of_z}
+-- The bits of a number.
+use Rattle.std.proofs.Common.{◌≡◌, ℕ, zero, suc, ◌+◌, ◌-◌, ◌*◌, ◌/◌, ◌^◌, ◌<◌, ◌≤◌, false, ℤ, pos, negsuc, refl, pow-suc, arith, lit<, w16, SFits, to_z, of_z}
 use lib.Signed.{le_z}
 use lib.Count.{count_leading_zeros, leading_length}
 use Rattle.std.proofs.lemmas.Int.{to_z-of_z}
-use Rattle.stream.specs.Packing.{le}
 use Rattle.level_bytes.specs.Bits.{bits, BitsOf}
 use Rattle.level_bytes.specs.Cuts.{above_zero, width}
 
@@ -20,21 +19,14 @@ bits_are k n h =
     let e : l.0 ≡ bits k n = omega (arith, l.1, zeros_and_bits k n) in
     record { enough = rw e at l.2; least = rw e at l.3 }
 
-pub le_four : (bs : List ℕ) → length bs ≡ 4 → get_or bs 0 0 + get_or bs 1 0 * 256 + get_or bs 2 0 * 65536 + get_or bs 3 0 * 16777216 ≡ le bs
-le_four [] h = absurd (omega arith)
-le_four (a ∷ []) h = absurd (omega arith)
-le_four (a ∷ b ∷ []) h = absurd (omega arith)
-le_four (a ∷ b ∷ c ∷ []) h = absurd (omega arith)
-le_four (a ∷ b ∷ c ∷ d ∷ []) h = omega arith
-le_four (a ∷ b ∷ c ∷ d ∷ e ∷ es) h = absurd (omega arith)
-
 above_fits : (z : ℤ) → SFits w16 z → above_zero z < 2 ^ 15
 above_fits (pos n) h = h.sfits
 above_fits (negsuc n) h = lit< tt
 
-above_is : (z : ℤ) → le_z z (pos 0) ≡ false → nat_abs z ≡ above_zero z
-above_is (pos n) h = refl
-above_is (negsuc n) h = absurd (let y : ◌≡◌ {A = ℕ} 0 1 = cc in omega arith)
+-- a maximum above zero lies in its bits as itself
+bits_of_max : (z : ℤ) → le_z z (pos 0) ≡ false → of_z w16 z ≡ above_zero z
+bits_of_max (pos n) h = refl
+bits_of_max (negsuc n) h = cc
 
 -- a number of at most `j` bits has them among the lowest
 pub bits_within : (k j n : ℕ) → n < 2 ^ j → bits k n ≤ j
@@ -52,13 +44,10 @@ pub record Wide (z : ℤ) (w : ℕ) : Type 0 where
   pub bits_of : BitsOf (above_zero z) w
   pub small : w ≤ 15
 
-pub wide : (z : ℤ) → SFits w16 z → le_z (to_z w16 (of_z w16 z)) (pos 0) ≡ false → Wide z (16 - count_leading_zeros 16 (nat_abs (to_z w16 (of_z w16 z))))
-wide z f h =
+pub wide : (z : ℤ) (l : ℕ) → SFits w16 z → le_z (to_z w16 (of_z w16 z)) (pos 0) ≡ false → l ≡ count_leading_zeros 16 (of_z w16 (to_z w16 (of_z w16 z))) → Wide z (16 - l)
+wide z l f h e =
     let n = above_zero z in
-    let e : nat_abs (to_z w16 (of_z w16 z)) ≡ n = ap nat_abs (to_z-of_z w16 z f) ∙ above_is z (ap (λ (x : ℤ). le_z x (pos 0)) (sym (to_z-of_z w16 z f)) ∙ h) in
-    let b : n < 2 ^ 15 = above_fits z f in
-    let zs = zeros_and_bits 16 n in
-    let w : 16 - count_leading_zeros 16 n ≡ bits 16 n = omega (arith, zs) in
-    let i : 16 - count_leading_zeros 16 (nat_abs (to_z w16 (of_z w16 z))) ≡ bits 16 n = ap (λ (x : ℕ). 16 - count_leading_zeros 16 x) e ∙ w in
-    let P : ℕ → Type 0 = λ x. BitsOf n x in
-    record { is = i; bits_of = subst P (sym i) (bits_are 16 n (omega (arith, b))); small = (let s = bits_within 16 15 n b in omega (arith, s, i)) }
+    let b = above_fits z f in
+    let o : of_z w16 (to_z w16 (of_z w16 z)) ≡ n = rw (to_z-of_z w16 z f) (bits_of_max z (simp to_z-of_z at h)) in
+    let i : 16 - l ≡ width z = rw (e, o) (omega (arith, zeros_and_bits 16 n)) in
+    record { is = i; bits_of = rw i (bits_are 16 n (omega (arith, b))); small = (let s = bits_within 16 15 n b in omega (arith, s, i)) }

@@ -1,18 +1,11 @@
 //! The level bytes at the front of a page.
 
-ghost use Rattle.std.specs.Prelude.{◌≡◌, ◌≤◌, length};
-ghost use Rattle.stream.specs.Packing.{le};
+ghost use Rattle.std.specs.Prelude.{◌≡◌};
 ghost use Rattle.level_bytes.specs.Cuts.{front, by_length, packed_bytes, v1_level, v2_levels, cut_of, parts_of};
 
 use crate::encoding::LevelEncoding;
 use crate::fault::LevelFault;
 use crate::width::level_width;
-
-/// The first number of a length that is negative.
-const NEGATIVE: u32 = 0x8000_0000;
-
-/// The length -4; those up to -1 follow it.
-const MINUS_FOUR: u32 = 0xffff_fffc;
 
 /// Cuts the level bytes of a V1 page off what is left of it: the level bytes, and what is behind
 /// them.
@@ -63,29 +56,21 @@ fn cut_front<'a>(bytes: &'a [u8], n: usize) -> Result<(&'a [u8], &'a [u8]), Leve
 fn cut_told<'a>(bytes: &'a [u8]) -> Result<(&'a [u8], &'a [u8]), LevelFault>
     ensures { cut_of result ≡ by_length bytes.now }
 {
-    let (told, rest) = cut_front(bytes, 4)?;
-    let len = number(told);
-    if len >= MINUS_FOUR {
-        return Err(LevelFault::NegativeLength);
-    }
-    if len >= NEGATIVE {
+    let Some((told, rest)) = bytes.split_first_chunk::<4>() else {
         return Err(LevelFault::Past);
+    };
+    match i32::from_le_bytes(*told) {
+        -4..=-1 => Err(LevelFault::NegativeLength),
+        len => {
+            let n = usize::try_from(len).map_err(|_| LevelFault::Past)?;
+            cut_front(rest, n)
+        }
     }
-    cut_front(rest, len as usize)
-}
-
-/// The number in four bytes, lowest first.
-fn number(bytes: &[u8]) -> u32
-    requires { length bytes.now ≡ 4 }
-    ensures { result ≡ le bytes.now }
-{
-    u32::from_le_bytes([bytes[0], bytes[1], bytes[2], bytes[3]])
 }
 
 /// The bytes that hold so many packed levels.
 fn packed_len(levels: u32, width: u32) -> usize
-    requires { width ≤ 15 }
     ensures { result ≡ packed_bytes levels width }
 {
-    (levels as usize * width as usize + 7) / 8
+    (levels as usize * width as usize).div_ceil(8)
 }

@@ -4,7 +4,7 @@ ghost use Rattle.std.specs.Prelude.{◌≡◌};
 ghost use Rattle.level_bytes.specs.Faults.{number as number_of};
 
 /// Why levels cannot be had.
-#[derive(Clone, Copy)]
+#[derive(Clone, Copy, Debug, PartialEq, Eq)]
 pub enum LevelFault {
     /// An encoding that levels do not have.
     UnknownEncoding(u8),
@@ -20,6 +20,7 @@ pub enum LevelFault {
 
 impl LevelFault {
     /// The number by which a refusal tells this fault.
+    // Kept: a method's name says what the number is for, as `u8::from(fault)` would not.
     pub fn number(self) -> u8
         ensures { result ≡ number_of self }
     {

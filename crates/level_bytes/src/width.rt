@@ -13,5 +13,5 @@ pub fn level_width(max_level: i16) -> u32
     if max_level <= 0 {
         return 0;
     }
-    16 - (max_level as u16).leading_zeros()
+    i16::BITS - max_level.leading_zeros()
 }

@@ -7,6 +7,7 @@
 #![tactic(auto)]
 
 use column_file::ColumnFile;
+use hex_words::bytes_of;
 use page::chain::Chain;
 use page::fault::MakingFault;
 use page::list::{ListError, ListedPage, list_pages};
@@ -18,27 +19,6 @@ use raw::Raw;
 use std::alloc::{AllocError, Global};
 use std::io;
 use strip::source::Strip;
-
-/// The value of a digit of base sixteen; 0 of any other byte.
-fn digit(byte: u8) -> u8 {
-    match byte {
-        b'0'..=b'9' => byte - b'0',
-        b'a'..=b'f' => byte - b'a' + 10,
-        b'A'..=b'F' => byte - b'A' + 10,
-        _ => 0,
-    }
-}
-
-/// The bytes that a word of base sixteen spells.
-fn bytes_of(heap: Global, word: &str) -> Result<Vec<u8>, AllocError> {
-    let mut bytes = Vec::new(heap);
-    for pair in word.as_bytes().chunks(2) {
-        if let [high, low] = pair {
-            bytes.push((digit(*high) % 16) * 16 + digit(*low) % 16)?;
-        }
-    }
-    Ok(bytes)
-}
 
 /// A source as its words have it.
 #[derive(Drop)]

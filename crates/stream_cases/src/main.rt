@@ -6,9 +6,11 @@
 //! as levels and as mask bits, and skipped, which must all agree.
 #![tactic(auto)]
 
+use element::number::Number;
+use hex_words::bytes_of;
+use run::kind::StreamFault;
 use run::reader::RunReader;
-use std::alloc::{AllocError, Global};
-use std::io;
+use std::{fmt, io};
 use stream::width::Width;
 
 /// How the numbers that were asked for ended.
@@ -20,125 +22,112 @@ enum End {
     Fault,
 }
 
-/// The value of a digit of base sixteen; 0 of any other byte.
-fn digit(byte: u8) -> u8 {
-    match byte {
-        b'0'..=b'9' => byte - b'0',
-        b'a'..=b'f' => byte - b'a' + 10,
-        _ => 0,
+impl fmt::Display for End {
+    fn fmt<W: fmt::Write>(&self, f: &mut fmt::Formatter<W>) -> fmt::Result {
+        f.write_str(match self {
+            End::More => "more",
+            End::Clean => "clean",
+            End::Fault => "fault",
+        })
     }
 }
 
-/// The bytes that a word of base sixteen spells.
-fn bytes_of(heap: Global, word: &str) -> Result<Vec<u8>, AllocError> {
-    let mut bytes = Vec::new(heap);
-    for pair in word.as_bytes().chunks(2) {
-        if let [high, low] = pair {
-            bytes.push((digit(*high) % 16) * 16 + digit(*low) % 16)?;
+/// What a stream gave: how many numbers were asked for, those that came, and how they ended.
+#[derive(Clone, Copy)]
+struct Came<'a> {
+    asked: usize,
+    numbers: &'a [u32],
+    end: End,
+}
+
+impl<'a> Came<'a> {
+    /// Reads number by number into the places.
+    fn one_by_one(mut reader: RunReader, places: &'a mut [u32]) -> Came<'a> {
+        let asked = places.len();
+        let mut count = asked;
+        let mut end = End::More;
+        for (k, place) in places.iter_mut().enumerate() {
+            let mut one = [0u32];
+            end = match reader.read(&mut one) {
+                Ok(1) => End::More,
+                Ok(_) => End::Clean,
+                Err(_) => End::Fault,
+            };
+            if end != End::More {
+                count = k;
+                break;
+            }
+            *place = one[0];
+        }
+        Came {
+            asked,
+            numbers: &places[..count.min(asked)],
+            end,
         }
     }
-    Ok(bytes)
-}
 
-/// Reads number by number into `out`; tells how many came, and how they ended.
-fn one_by_one(mut reader: RunReader, out: &mut [u32]) -> (usize, End) {
-    for k in 0..out.len() {
-        let mut one = [0u32];
-        match reader.read(&mut one) {
-            Ok(1) => out[k] = one[0],
-            Ok(_) => return (k, End::Clean),
-            Err(_) => return (k, End::Fault),
+    /// Whether a call's reply is the one that goes with these numbers and their end.
+    fn replies(&self, reply: Result<usize, StreamFault>) -> bool {
+        match reply {
+            Ok(n) => n == self.numbers.len() && self.end != End::Fault,
+            Err(_) => self.end == End::Fault,
         }
     }
-    (out.len(), End::More)
-}
 
-/// Whether a call's reply is the one that goes with `k` numbers and their end.
-fn replies(reply: Result<usize, run::kind::StreamFault>, k: usize, end: End) -> bool {
-    match reply {
-        Ok(n) => n == k && end != End::Fault,
-        Err(_) => end == End::Fault,
+    /// Whether the numbers, read at once into places that all hold `unread`, are these, and what
+    /// stands behind them is as it was.
+    fn at_once<T: Number + PartialEq>(
+        &self,
+        mut reader: RunReader,
+        places: &mut [T],
+        unread: T,
+    ) -> bool {
+        let asked = self.asked.min(places.len());
+        let reply = reader.read(&mut places[..asked]);
+        places
+            .iter()
+            .zip(self.numbers.iter())
+            .all(|(x, number)| *x == T::from_u32(*number))
+            && places.iter().skip(self.numbers.len()).all(|x| *x == unread)
+            && self.replies(reply)
     }
-}
 
-/// Whether indexes read at once, and what stands behind them, are those read one by one.
-fn as_indexes(mut reader: RunReader, numbers: &[u32], asked: usize, end: End) -> bool {
-    let mut all = [7u32; 64];
-    let m = asked.min(64);
-    let reply = reader.read(&mut all[0..m]);
-    let mut same = true;
-    for i in 0..64 {
-        let wanted = if i < numbers.len() { numbers[i] } else { 7 };
-        same = same && all[i] == wanted;
-    }
-    same && replies(reply, numbers.len(), end)
-}
-
-/// The same of levels.
-fn as_levels(mut reader: RunReader, numbers: &[u32], asked: usize, end: End) -> bool {
-    let mut all = [7i16; 64];
-    let m = asked.min(64);
-    let reply = reader.read(&mut all[0..m]);
-    let mut same = true;
-    for i in 0..64 {
-        let wanted = if i < numbers.len() {
-            (numbers[i] & 0x7fff) as i16
-        } else {
-            7
+    /// Whether skipping answers as reading does, and leaves the same numbers behind a part.
+    fn skipped(&self, reader: RunReader) -> bool {
+        let mut whole = reader;
+        let mut part = reader;
+        let (first, rest) = self.numbers.split_at(self.numbers.len() / 2);
+        let front = Came {
+            asked: first.len(),
+            numbers: first,
+            end: End::More,
         };
-        same = same && all[i] == wanted;
-    }
-    same && replies(reply, numbers.len(), end)
-}
-
-/// The same of mask bits.
-fn as_mask(mut reader: RunReader, numbers: &[u32], asked: usize, end: End) -> bool {
-    let mut all = [true; 64];
-    let m = asked.min(64);
-    let reply = reader.read(&mut all[0..m]);
-    let mut same = true;
-    for i in 0..64 {
-        let wanted = if i < numbers.len() {
-            numbers[i] != 0
-        } else {
-            true
+        let behind = Came {
+            asked: self.asked.saturating_sub(first.len()),
+            numbers: rest,
+            end: self.end,
         };
-        same = same && all[i] == wanted;
+        front.replies(part.skip(front.asked))
+            && behind.at_once(part, &mut [7u32; 64], 7)
+            && self.replies(whole.skip(self.asked))
     }
-    same && replies(reply, numbers.len(), end)
-}
-
-/// Whether skipping answers as reading does, and leaves the same numbers behind a part.
-fn skipped(reader: RunReader, numbers: &[u32], asked: usize, end: End) -> bool {
-    let mut whole = reader;
-    let mut part = reader;
-    let first = numbers.len() / 2;
-    let reply = part.skip(first);
-    as_indexes(part, &numbers[first..], asked.saturating_sub(first), end)
-        && replies(reply, first, End::More)
-        && replies(whole.skip(asked), numbers.len(), end)
 }
 
 /// Prints a case with its answer; as many numbers are asked for as there are places for them.
 fn answer(rt: &HostRuntime, line: &str, reader: RunReader, places: &mut [u32]) -> io::Result<()> {
-    let asked = places.len();
-    let (k, end) = one_by_one(reader, places);
-    let numbers = &places[0..k.min(asked)];
+    let came = Came::one_by_one(reader, places);
     print!(rt; "{line} ->")?;
-    for x in numbers {
+    for x in came.numbers {
         print!(rt; " {x}")?;
     }
-    if !as_indexes(reader, numbers, asked, end) || !as_levels(reader, numbers, asked, end) {
+    if !came.at_once(reader, &mut [7u32; 64], 7) || !came.at_once(reader, &mut [7i16; 64], 7) {
         print!(rt; " read otherwise at once")?;
     }
-    if !as_mask(reader, numbers, asked, end) || !skipped(reader, numbers, asked, end) {
+    if !came.at_once(reader, &mut [true; 64], true) || !came.skipped(reader) {
         print!(rt; " read or skipped otherwise at once")?;
     }
-    match end {
-        End::More => println!(rt; " more"),
-        End::Clean => println!(rt; " clean"),
-        End::Fault => println!(rt; " fault"),
-    }
+    let end = came.end;
+    println!(rt; " {end}")
 }
 
 /// A case.
@@ -152,23 +141,12 @@ fn case(rt: &HostRuntime, line: &str, words: &[&str]) -> io::Result<()> {
     let limit = limit.parse::<u64>().unwrap_or(0);
     let asked = asked.parse::<usize>().unwrap_or(0);
     let bytes = bytes_of(rt.alloc(), bytes)?;
+    let reader = match *kind {
+        "packed" => RunReader::bit_packed(bytes.as_slice(), width, limit),
+        _ => RunReader::hybrid(bytes.as_slice(), width, limit),
+    };
     let mut places = [0u32; 64];
-    let places = &mut places[0..asked.min(64)];
-    if *kind == "packed" {
-        answer(
-            rt,
-            line,
-            RunReader::bit_packed(bytes.as_slice(), width, limit),
-            places,
-        )
-    } else {
-        answer(
-            rt,
-            line,
-            RunReader::hybrid(bytes.as_slice(), width, limit),
-            places,
-        )
-    }
+    answer(rt, line, reader, &mut places[..asked.min(64)])
 }
 
 fn main(rt: HostRuntime) -> io::Result<()> {

@@ -4,7 +4,7 @@ ghost use Rattle.std.specs.Prelude.{◌≡◌};
 ghost use Rattle.value_fault.specs.Faults.{number as number_of};
 
 /// Why values cannot be had.
-#[derive(Clone, Copy)]
+#[derive(Clone, Copy, Debug, PartialEq, Eq)]
 pub enum ValueFault {
     /// An encoding that dictionaries do not have.
     DictionaryEncoding(u8),
@@ -28,18 +28,15 @@ pub enum ValueFault {
 
 impl ValueFault {
     /// The number by which a refusal tells this fault.
+    // Kept: a method's name says what the number is for, as `u8::from(fault)` would not.
     pub fn number(self) -> u8
         ensures { result ≡ number_of self }
     {
         match self {
-            ValueFault::DictionaryEncoding(_) => 2,
-            ValueFault::DictionaryCut => 2,
+            ValueFault::DictionaryEncoding(_) | ValueFault::DictionaryCut => 2,
             ValueFault::SecondDictionary => 3,
-            ValueFault::UnknownEncoding(_) => 10,
-            ValueFault::NoDictionary => 10,
-            ValueFault::NoWidth => 11,
-            ValueFault::Width(_) => 11,
-            ValueFault::Unreadable => 11,
+            ValueFault::UnknownEncoding(_) | ValueFault::NoDictionary => 10,
+            ValueFault::NoWidth | ValueFault::Width(_) | ValueFault::Unreadable => 11,
             ValueFault::TooFew => 12,
         }
     }

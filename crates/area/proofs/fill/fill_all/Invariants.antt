@@ -1,5 +1,5 @@
-use Rattle.std.proofs.Common.{◌≡◌, ◌++◌, drop, replicate}
+use Rattle.std.proofs.Common.{◌≡◌, take, replicate}
 use Rattle.area.proofs.fill.fill_all.Given as goal
 
-abbrev pub invariant-loop-i : goal.invariant-loop-i
-invariant-loop-i g l = l.out ≡ replicate l.i l.x ++ drop l.i l.initial.out
+abbrev pub invariant-loop-slot : goal.invariant-loop-slot
+invariant-loop-slot g l = take l.slot-index l.out ≡ replicate l.slot-index l.x

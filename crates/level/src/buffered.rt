@@ -1,6 +1,6 @@
 //! Reading ahead, and handing on.
 
-ghost use Rattle.std.specs.Prelude.{◌≡◌, ◌-◌, ◌<◌, ◌≤◌, min, true, map, length, take, is_err, IfOk};
+ghost use Rattle.std.specs.Prelude.{◌≡◌, ◌-◌, ◌<◌, ◌≤◌, min, map, length, take, IfOk, IfErr};
 ghost use Rattle.stream.specs.Streams.{ended, clean, fault};
 ghost use Rattle.run.specs.Reading.{after};
 ghost use Rattle.area.specs.Areas.{room as room_of, appended};
@@ -44,7 +44,7 @@ impl<'a> Ahead<'a> {
         ensures there { IfOk result (λ k. k ≤ length (coming self.new).numbers) }
         ensures comes { coming self.new ≡ coming self.old }
         ensures clean { result ≡ Ok 0 → coming self.new ≡ ended clean }
-        ensures fault { is_err result ≡ true → coming self.new ≡ ended fault }
+        ensures fault { IfErr result (λ _. coming self.new ≡ ended fault) }
     {
         if self.offset < self.len {
             return Ok(self.len - self.offset);

@@ -1,10 +1,7 @@
 //! Levels into an area.
 
-ghost use Rattle.std.specs.Prelude.{◌≡◌, ◌≤◌, map, length, take, IfOk};
-ghost use Rattle.stream.specs.Streams.{ended, clean};
+ghost use Rattle.std.specs.Prelude.{◌≡◌, ◌≤◌, length, IfOk};
 ghost use Rattle.run.specs.Coming.{to_come};
-ghost use Rattle.run.specs.Reading.{after};
-ghost use Rattle.area.specs.Areas.{room as room_of, appended, blanked};
 ghost use Rattle.level.specs.Courses.{left_of, area_of};
 
 use crate::course::Course;
@@ -14,30 +11,7 @@ use element::blank::Blank;
 use element::number::Number;
 use run::reader::RunReader;
 
-/// Appends the next `n` levels, which are there and fit.
-fn append<T: Number>(reader: &mut RunReader<'_>, out: &mut Area<'_, T>, n: usize)
-    requires there { n ≤ length (to_come reader.old).numbers }
-    requires room { n ≤ room_of out.old }
-    ensures holds { out.new ≡ appended out.old (map T.Number.from (take n (to_come reader.old).numbers)) }
-    ensures comes { to_come reader.new ≡ after n (to_come reader.old) }
-{
-    let at = out.len();
-    // All of them are there, so that the reply says nothing.
-    let _ = reader.read(&mut out.slice[at..at + n]);
-    out.advance(n);
-}
-
-/// Leaves nothing to come, and blanks behind what an area has filled.
-fn give_up<T: Blank>(reader: &mut RunReader<'_>, out: &mut Area<'_, T>)
-    ensures comes { to_come reader.new ≡ ended clean }
-    ensures holds { out.new ≡ blanked T.Blank.blank_is out.old out.old.count }
-{
-    let count = out.count;
-    out.set_back(count);
-    *reader = RunReader::empty();
-}
-
-/// Takes the levels of a call, and appends those that fit; or gives up.
+/// Takes the levels of a call, and appends those that fit; or leaves nothing to come, and blanks behind what is filled.
 pub(crate) fn deliver<T: Number + Blank>(
     reader: &mut RunReader<'_>,
     out: &mut Area<'_, T>,
@@ -50,10 +24,17 @@ pub(crate) fn deliver<T: Number + Blank>(
     match course {
         Ok(course) => {
             let n = course.taken.min(out.room());
-            append(reader, out, n);
+            let at = out.len();
+            // All of them are there, so that the replies say nothing.
+            let _ = reader.read(&mut out.slice[at..at + n]);
+            out.advance(n);
             let _ = reader.skip(course.taken - n);
         }
-        Err(_) => give_up(reader, out),
+        Err(_) => {
+            let count = out.count;
+            out.set_back(count);
+            *reader = RunReader::empty();
+        }
     }
 }
 

@@ -9,7 +9,8 @@ use run::reader::RunReader;
 pub struct Ahead<'a> {
     /// The reader behind the levels in the buffer.
     pub(crate) reader: RunReader<'a>,
-    /// The levels that were read ahead. Kept: an array with its length and a place beside it, since a decoder has no heap.
+    /// The levels that were read ahead.
+    // Kept: an array with its length and a place beside it, since a decoder has no heap.
     pub(crate) buffer: [u32; 1024],
     /// How many levels the buffer holds.
     pub(crate) len: usize,

@@ -21,6 +21,7 @@ fn write_levels<T: Number>(levels: &[u32], out: &mut [T])
     requires { length levels.now ≡ length out.old }
     ensures { out.new ≡ map T.Number.from levels.now }
 {
+    // Kept: `out[i]`; tried over `out.iter_mut().zip(levels)`, where the proof did not close: nothing is known of the elements then.
     for (i, level) in levels.iter().enumerate() {
         out[i] = T::from_u32(*level);
     }

@@ -9,7 +9,7 @@ use level_bytes::fault::LevelFault;
 use run::kind::StreamFault;
 
 /// Why a call for levels is refused.
-#[derive(Clone, Copy)]
+#[derive(Clone, Copy, Debug, PartialEq, Eq)]
 pub enum LevelRefusal {
     /// The levels cannot be had.
     Fault(LevelFault),

@@ -11,7 +11,7 @@ use run::kind::StreamFault;
 use run::reader::RunReader;
 
 /// What a call for records comes to.
-// Kept: a loop like that of `Ahead::walk_on`, since the decoder that works ahead is held against one that shares no buffer with it.
+// Kept: a loop like that of `Ahead::walk_on`; one loop over both would be as long, and need a trait for what holds the levels with all clauses of both.
 pub(crate) fn rep_course(reader: RunReader<'_>, asked: Asked) -> Result<Course, StreamFault>
     ensures is { result ≡ course_of asked (to_come reader.entry) }
     ensures there { IfOk result (λ c. c.taken ≤ length (to_come reader.entry).numbers) }

@@ -10,6 +10,7 @@ use run::kind::StreamFault;
 #[derive(Clone, Copy)]
 pub struct Course {
     /// All that was asked for is there.
+    // Kept: a flag, since the fields beside it say the same of a call in either case.
     pub full: bool,
     /// How many levels it takes.
     pub taken: usize,

@@ -16,6 +16,7 @@ pub struct Walk {
     /// Whether a record is open behind them.
     pub opened: bool,
     /// Whether it closed the last record that was asked for.
+    // Kept: a flag, since the fields beside it say the same of a walk in either case.
     pub stopped: bool,
 }
 

@@ -47,6 +47,7 @@ pub struct PageMetadata {
     /// How many levels the page has, if it is told.
     pub num_levels: Option<u32>,
     /// Whether the page is a dictionary.
+    // Kept: a flag, as the Rust crate has it; an enum in its place would repeat the two counts in each variant.
     pub is_dict: bool,
 }
 

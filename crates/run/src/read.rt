@@ -62,6 +62,7 @@ impl<'a> RunReader<'a> {
         }
     }
 
+    // Kept: the loop of `read_some` again; one loop with the step as a closure would carry the places that are written through the closure's contract.
     /// Passes over `m` numbers, fewer only before an end or a fault, and tells how many; the fault itself where not one number comes before it.
     fn skip_some(&mut self, m: usize) -> Result<usize, StreamFault>
         ensures reply { result ≡ some_of m (to_come self.old) }

@@ -6,7 +6,7 @@ ghost use Rattle.stream.specs.Packing.{be};
 use crate::word::window;
 use stream::width::Width;
 
-/// The number that starts at the bit `at`, highest first.
+/// The number that starts at the bit `at`, counted from the highest of each byte down.
 pub(crate) fn high_bits(bytes: &[u8], at: usize, width: Width) -> u32
     requires { at + width.bits ≤ 8 * length bytes.now }
     ensures { result ≡ be bytes.now / 2 ^ (8 * length bytes.now - (at + width.bits)) % 2 ^ width.bits }

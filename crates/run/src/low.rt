@@ -10,7 +10,7 @@ use crate::word::{window, word};
 use element::number::Number;
 use stream::width::Width;
 
-/// The number that starts at the bit `at`.
+/// The number that starts at the bit `at`, counted from the lowest of each byte up.
 pub(crate) fn low_bits(bytes: &[u8], at: usize, width: Width) -> u32
     requires { at + width.bits ≤ 8 * length bytes.now }
     ensures { result ≡ le bytes.now / 2 ^ at % 2 ^ width.bits }
@@ -46,6 +46,7 @@ fn by_groups<T: Number, const W: usize>(bytes: &[u8], out: &mut [T]) -> usize
         return 0;
     }
     let groups = (out.len() / 8).min((bytes.len() - 8) / W);
+    // Kept: groups by their number. Through `chunks_exact_mut` (tried) no invariant sees what is written.
     for g in 0..groups {
         group::<T, W>(&bytes[g * W..], &mut out[8 * g..8 * g + 8]);
     }
@@ -95,7 +96,7 @@ fn groups<T: Number>(bytes: &[u8], width: u32, out: &mut [T]) -> usize
     }
 }
 
-/// The bytes from `j` on: the number in all of them, with the bits in front shifted out.
+/// The bytes from `j` on. Their number is that of all the bytes with those in front shifted out.
 fn bytes_from(bytes: &[u8], j: usize) -> &[u8]
     requires { j ≤ length bytes.now }
     ensures { le result.now ≡ le bytes.now / 2 ^ (8 * j) }

@@ -166,6 +166,7 @@ fn place<T: Number>(numbers: &[u32], out: &mut [T])
     requires { length out.old ≡ length numbers.now }
     ensures { out.new ≡ map T.Number.from numbers.now }
 {
+    // Kept: an index into the one slice. Through a `zip` of both (tried) no invariant sees what is written.
     for (i, x) in out.iter_mut().enumerate() {
         *x = T::from_u32(numbers[i]);
     }

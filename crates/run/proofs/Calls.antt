@@ -37,26 +37,28 @@ abbrev pub passes_step : (s : Stream) (k : ℕ) (r : RunReader) (n : ℕ) (t : R
 passes_step s k r n t a b =
     passes_more s (to_come r) (to_come t) k n a (record { numbers = next_of r n; many = length-take-le n (left_of r.run) b.there; there = b.passes })
 
--- A step within a run: `n` of its numbers are looked at, as many as `m` places or all that are left, and `k` of them are good.
-module _ (r : RunReader) (run : Run) (n m k : ℕ) (is : k ≡ good r.limit (take n (left_of r.run))) (on : left_of run ≡ drop k (left_of r.run)) (least : n ≡ min (length (left_of r.run)) m) where
-  abbrev next : RunReader
-  next = record { width = r.width; limit = r.limit; bytes = r.bytes; run = run }
+-- A step within a run: `m` of its numbers are looked at, or all that are left, and `k` of them are good.
+module _ (r t : RunReader) (m k : ℕ) (is : k ≡ good r.limit (take m (left_of r.run))) (on : left_of t.run ≡ drop k (left_of r.run))
+    (limit : t.limit ≡ r.limit) (width : t.width.bits ≡ r.width.bits) (bytes : t.bytes.now ≡ r.bytes.now) where
+  comes : to_come t ≡ within r.limit (drop k (left_of r.run)) (hybrid r.width.bits r.limit r.bytes.now)
+  comes =
+      ap (λ l. within l (left_of t.run) (hybrid t.width.bits l t.bytes.now)) limit
+      ∙ (ap (λ xs. within r.limit xs (hybrid t.width.bits r.limit t.bytes.now)) on
+      ∙ (ap (λ w. within r.limit (drop k (left_of r.run)) (hybrid w r.limit t.bytes.now)) width
+      ∙ ap (λ bs. within r.limit (drop k (left_of r.run)) (hybrid r.width.bits r.limit bs)) bytes))
 
-  pub step_over : Steps r k next
+  pub step_over : Steps r k t
   step_over = record {
-    there = good_there r.limit n k (left_of r.run) is;
-    passes = good_over r.limit n k (left_of r.run) is (hybrid r.width.bits r.limit r.bytes.now) ∙ ap (λ ys. onto (take k (left_of r.run)) (within r.limit ys (hybrid r.width.bits r.limit r.bytes.now))) (sym on);
-    bytes = refl;
+    there = good_there r.limit m k (left_of r.run) is;
+    passes = good_over r.limit m k (left_of r.run) is (hybrid r.width.bits r.limit r.bytes.now) ∙ ap (onto (take k (left_of r.run))) (sym comes);
+    bytes = bytes;
   }
 
   pub step_most : k ≤ m
-  step_most = omega (arith, good_few r.limit n k (left_of r.run) is)
+  step_most = good_few r.limit m k (left_of r.run) is
 
-  pub step_stops : k < m → Stopped next
-  step_stops h = elim (good_stops r.limit n k (left_of r.run) is m (hybrid r.width.bits r.limit r.bytes.now) least h) [
-    | inl e ↦ inl (on ∙ e)
-    | inr e ↦ inr (ap (λ ys. within r.limit ys (hybrid r.width.bits r.limit r.bytes.now)) on ∙ e)
-  ]
+  pub step_stops : k < m → Stopped t
+  step_stops h = elim (good_stops r.limit m k (left_of r.run) is (hybrid r.width.bits r.limit r.bytes.now) h) [ inl e ↦ inl (on ∙ e) | inr e ↦ inr (comes ∙ e) ]
 
 pub got_none : {X : Type 0} (f : ℕ → X) (s : Stream) (o : List X) → Got f s o 0 o s
 got_none f s o = record { passes = passes_none s; most = omega arith; written = refl }

@@ -77,8 +77,8 @@ module _ (limit n k : ℕ) (xs : List ℕ) (is : k ≡ good limit (take n xs)) w
   good_over t = within_over limit k xs t good_in
 
   -- fewer than there are places: the run is read, or the next is not good
-  pub good_stops : (m : ℕ) (t : Stream) → n ≡ min (length xs) m → k < m → (drop k xs ≡ []) ⊎ (within limit (drop k xs) t ≡ ended fault)
-  good_stops m t e h = elim (cases_lt k (length (take n xs))) [
+  pub good_stops : (t : Stream) → k < n → (drop k xs ≡ []) ⊎ (within limit (drop k xs) t ≡ ended fault)
+  good_stops t h = elim (cases_lt k (length (take n xs))) [
     | inl c ↦ (let g : good limit xs ≡ k = sym both ∙ (good_cut limit (take n xs) (drop n xs) (omega arith) ∙ sym is) in
         let l : good limit xs < length xs = omega (arith, length-take n xs) in
         inr (ap (λ j. within limit (drop j xs) t) (sym g) ∙ within_stops limit xs t l))

@@ -29,46 +29,50 @@ impl<'a> Run<'a> {
         }
     }
 
-    /// Passes over its next `n` numbers.
-    #[tactic(auto, using(crate::proofs::PackedParts::numbers_length))]
-    fn advance(&mut self, n: usize)
-        requires { n ≤ length (left_of self.old) }
-        ensures { left_of self.new ≡ drop n (left_of self.old) }
+    /// Passes over the next numbers, `m` at most, but none from the first on that is not below the limit; tells how many.
+    fn pass(&mut self, limit: u64, m: usize) -> usize
+        ensures is { result ≡ good limit (take m (left_of self.old)) }
+        ensures left { left_of self.new ≡ drop result (left_of self.old) }
     {
         match self {
-            Run::Repeated { count, .. } => *count -= n,
-            Run::Packed(part) => part.advance(n),
-        }
-    }
-
-    /// How many of the next `n` numbers stand in front of the first that is not below the limit.
-    #[tactic(auto, using(crate::proofs::PackedParts::numbers_length))]
-    fn good(self, n: usize, limit: u64) -> usize
-        requires { n ≤ length (left_of self) }
-        ensures { result ≡ good limit (take n (left_of self.entry)) }
-    {
-        match self {
-            Run::Repeated { value, .. } => { if below(value, limit) { n } else { 0 } }
-            Run::Packed(part) => part.front(n).good(limit),
-        }
-    }
-
-    /// Writes those of the next numbers, as many as there are places, that stand in front of the first that is not below the limit; tells how many.
-    #[tactic(auto, using(crate::proofs::PackedParts::numbers_length))]
-    fn unpack_good<T: Number>(self, limit: u64, out: &mut [T]) -> usize
-        requires { length out.old ≤ length (left_of self) }
-        ensures is { result ≡ good limit (take (length out.old) (left_of self.entry)) }
-        ensures written { out.new ≡ map T.Number.from (take result (left_of self.entry)) ++ drop result out.old }
-    {
-        match self {
-            Run::Repeated { value, .. } => {
-                if !below(value, limit) {
+            Run::Repeated { value, count } => {
+                if !below(*value, limit) {
                     return 0;
                 }
-                repeat(out, value);
-                out.len()
+                let n = m.min(*count);
+                *count -= n;
+                n
             }
-            Run::Packed(part) => part.front(out.len()).unpack_good(limit, out),
+            Run::Packed(part) => {
+                let k = part.front(m.min(part.count)).good(limit);
+                part.advance(k);
+                k
+            }
+        }
+    }
+
+    /// Writes the next numbers, as many as there are places, but none from the first on that is not below the limit; tells how many.
+    fn take<T: Number>(&mut self, limit: u64, out: &mut [T]) -> usize
+        ensures is { result ≡ good limit (take (length out.old) (left_of self.old)) }
+        ensures left { left_of self.new ≡ drop result (left_of self.old) }
+        ensures written { out.new ≡ map T.Number.from (take result (left_of self.old)) ++ drop result out.old }
+    {
+        match self {
+            Run::Repeated { value, count } => {
+                if !below(*value, limit) {
+                    return 0;
+                }
+                let n = out.len().min(*count);
+                repeat(&mut out[..n], *value);
+                *count -= n;
+                n
+            }
+            Run::Packed(part) => {
+                let n = out.len().min(part.count);
+                let k = part.front(n).unpack_good(limit, &mut out[..n]);
+                part.advance(k);
+                k
+            }
         }
     }
 }
@@ -81,10 +85,7 @@ impl<'a> RunReader<'a> {
         ensures stops { result < length out.old → Stopped self.new }
         ensures written { out.new ≡ map T.Number.from (next_of self.old result) ++ drop result out.old }
     {
-        let n = self.run.len().min(out.len());
-        let k = self.run.unpack_good(self.limit, &mut out[..n]);
-        self.run.advance(k);
-        k
+        self.run.take(self.limit, out)
     }
 
     /// Passes over the next numbers of the run, `m` at most, but none from the first on that is not below the limit; tells how many.
@@ -93,9 +94,6 @@ impl<'a> RunReader<'a> {
         ensures most { result ≤ m }
         ensures stops { result < m → Stopped self.new }
     {
-        let n = self.run.len().min(m);
-        let k = self.run.good(n, self.limit);
-        self.run.advance(k);
-        k
+        self.run.pass(self.limit, m)
     }
 }

@@ -1,6 +1,6 @@
 //! Reading and skipping.
 
-ghost use Rattle.std.specs.Prelude.{◌≡◌, length};
+ghost use Rattle.std.specs.Prelude.{◌≡◌, length, OnOk};
 ghost use Rattle.run.specs.Coming.{to_come};
 ghost use Rattle.run.specs.Reading.{after, replied, some_of, rest, filled};
 
@@ -16,13 +16,25 @@ impl<'a> RunReader<'a> {
         ensures rest { to_come self.new ≡ rest (length out.old) (to_come self.old) }
         ensures filled { out.new ≡ filled T.Number.from (to_come self.old) out.old }
     {
-        let mut run = *self;
-        let k = run.read_some(out)?;
+        let start = *self;
+        let reply = self.read_through(out);
+        if reply.is_err() {
+            *self = start;
+        }
+        reply
+    }
+
+    /// The same, but a fault leaves the reader at the end of what was read.
+    fn read_through<T: Number>(&mut self, out: &mut [T]) -> Result<usize, StreamFault>
+        ensures reply { result ≡ replied (length out.old) (to_come self.old) }
+        ensures rest { OnOk result (to_come self.new ≡ rest (length out.old) (to_come self.old)) }
+        ensures filled { out.new ≡ filled T.Number.from (to_come self.old) out.old }
+    {
+        let k = self.read_some(out)?;
         if k < out.len() {
             // An end or a fault is next; a step more tells which.
-            let _ = run.skip_some(1)?;
+            let _ = self.skip_some(1)?;
         }
-        *self = run;
         Ok(k)
     }
 
@@ -32,12 +44,23 @@ impl<'a> RunReader<'a> {
         ensures reply { result ≡ replied m (to_come self.old) }
         ensures rest { to_come self.new ≡ rest m (to_come self.old) }
     {
-        let mut run = *self;
-        let k = run.skip_some(m)?;
-        if k < m {
-            let _ = run.skip_some(1)?;
+        let before = *self;
+        let reply = self.skip_through(m);
+        if reply.is_err() {
+            *self = before;
         }
-        *self = run;
+        reply
+    }
+
+    /// The same, but a fault leaves the reader at the end of what was skipped.
+    fn skip_through(&mut self, m: usize) -> Result<usize, StreamFault>
+        ensures reply { result ≡ replied m (to_come self.old) }
+        ensures rest { OnOk result (to_come self.new ≡ rest m (to_come self.old)) }
+    {
+        let k = self.skip_some(m)?;
+        if k < m {
+            let _ = self.skip_some(1)?;
+        }
         Ok(k)
     }
 

@@ -34,6 +34,20 @@ wrote c at n xs ys zs a l h e =
 pub held : {X : Type 0} (a : Area X) (m n : ℕ) (ys zs : List X) → ys ≡ zs → m ≡ n → holding a ys m ≡ holding a zs n
 held {X} a m n ys zs e f = ap (λ (ws : List X). holding a ws m) e ∙ ap (λ (k : ℕ). holding a zs k) f
 
+-- what a write of `zs` to `s[at..]` leaves
+pub wrote_rest : {X : Type 0} (at : ℕ) (xs ys zs : List X) → ys ≡ zs → at ≤ length xs → put_mid at (length xs - at) xs ys ≡ take at xs ++ zs
+wrote_rest at xs ys zs e h = ap (λ t. take at xs ++ t) (ap (λ t. ys ++ t) (drop_all (length xs - at) (drop at xs) (simp length-drop (omega arith))) ∙ append-nil ys ∙ e)
+
+-- the blank `b` written from the place `at` on, and the count set to `m`
+pub blank_is_lem : {X : Type 0} (b d : X) (a : Area X) (m at : ℕ) (ys : List X) → at ≡ min m (length (cells a)) → d ≡ b → ys ≡ replicate (length (take (length (cells a) - at) (drop at (cells a)))) d
+    → holding a (put_mid at (length (cells a) - at) (cells a) ys) m ≡ blank_from b a m
+blank_is_lem {X} b d a m at ys p f e =
+    let xs = cells a in
+    let k : length (take (length xs - at) (drop at xs)) ≡ length xs - m = simp (length-take, length-drop) (omega (arith, p)) in
+    let front : take at xs ≡ take m xs = ap (λ (j : ℕ). take j xs) p ∙ take_within m xs in
+    let back : ys ≡ replicate (length xs - m) b = e ∙ (ap (λ (j : ℕ). replicate j d) k ∙ ap (λ (z : X). replicate (length xs - m) z) f) in
+    held a _ _ _ _ (wrote_rest at xs ys _ back (omega (arith, p)) ∙ ap (λ t. t ++ replicate (length xs - m) b) front) refl
+
 -- A part `[at..at + m]` behind the count was lent on, and holds `zs` and then what it held; the area was then advanced by them: they are appended.
 pub lent_part : {X : Type 0} (a : Area X) (at m k : ℕ) (zs ys : List X) → at ≡ counted a → length zs ≡ k → k ≤ m → m ≤ room a
     → ys ≡ zs ++ drop k (take ((at + m) - at) (drop at (cells a)))

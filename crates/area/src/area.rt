@@ -3,8 +3,8 @@
 ghost use Rattle.std.specs.Prelude.{◌≡◌, ◌≤◌, true, false, not, [], length, replicate, is_ok, OkIff, if◌then◌else◌, nat_le};
 ghost use Rattle.area.specs.Areas.{filled as filled_part, counted, room as room_of, appended, advanced, blank_from, blanked, emptied};
 
-use crate::fill::fill_all;
 use element::blank::Blank;
+use element::slices::fill_all;
 
 /// Lent memory, of which the first `count` elements are filled. It is `there`, or tells that it is
 /// missing.
@@ -88,7 +88,7 @@ impl<'b, T> Area<'b, T> {
 
     /// Counts `k` more elements as filled, or as many as there is room for. They were written
     /// through the part behind the count, lent on as `&mut area.slice[at..]`.
-    // Kept: tried, but what a method leaves that lends this part on has no proof.
+    // Kept: callers lend `&mut area.slice[at..]`. Tried as a method that returns this part; the check proves nothing of the area once the part is lent.
     pub fn advance(&mut self, k: usize)
         ensures { self.new ≡ advanced self.old k }
     {

@@ -2,6 +2,5 @@
 #![tactic(auto)]
 
 pub mod area;
-mod fill;
 pub mod lent_values;
 pub mod values_buffer;

@@ -46,7 +46,7 @@ fn sum(mut reader: RunReader, out: &mut [u32]) -> Option<u64> {
             return Some(total);
         }
         for x in out.iter().take(k) {
-            total = total.wrapping_add(*x as u64);
+            total = total.wrapping_add(u64::from(*x));
         }
     }
     None
@@ -157,10 +157,8 @@ fn repeated(bytes: &[u8], bits: u32) -> Coded<'_> {
 
 fn main(rt: HostRuntime) -> io::Result<()> {
     let heap = rt.alloc();
-    for word in env::args(&rt)? {
-        if word.as_str() == "full" {
-            return full(&rt);
-        }
+    if env::args(&rt)?.any(|word| word.as_str() == "full") {
+        return full(&rt);
     }
     let mut out = vec![in heap; 0u32; BATCH]?;
     for bits in 0..33u32 {

@@ -3,7 +3,7 @@
 ghost use Rattle.std.specs.Prelude.{◌≡◌, false, pos};
 
 /// Elements of a kind that tells a blank.
-// Kept: over `Default`, whose value has no name, each kind would give its blank and a proof.
+// Kept: `blank` beside the library's `Default`. That trait says of its value only that a predicate holds of it, so contracts could not name the blank.
 pub trait Blank: Copy {
     // The blank of this kind.
     ghost blank_is: { Self };

@@ -3,3 +3,4 @@
 
 pub mod blank;
 pub mod number;
+pub mod slices;

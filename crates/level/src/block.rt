@@ -11,7 +11,8 @@ use run::kind::StreamFault;
 use run::reader::RunReader;
 
 /// What a call for records comes to.
-// Kept: a loop like that of `Ahead::walk_on`; one loop over both would be as long, and need a trait for what holds the levels with all clauses of both.
+// Kept: a loop like that of `Ahead::walk_on`, which holds its levels and hands them on as it goes. One loop for both would call a trait for each of its
+// three steps, and the trait would be longer than the loop.
 pub(crate) fn rep_course(reader: RunReader<'_>, asked: Asked) -> Result<Course, StreamFault>
     ensures is { result ≡ course_of asked (to_come reader.entry) }
     ensures there { IfOk result (λ c. c.taken ≤ length (to_come reader.entry).numbers) }

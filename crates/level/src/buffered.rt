@@ -13,19 +13,9 @@ use crate::asked::Asked;
 use crate::walk::Walk;
 use area::area::Area;
 use element::number::Number;
+use element::slices::write_numbers;
 use run::kind::StreamFault;
 use run::reader::RunReader;
-
-/// Writes levels as elements.
-fn write_levels<T: Number>(levels: &[u32], out: &mut [T])
-    requires { length levels.now ≡ length out.old }
-    ensures { out.new ≡ map T.Number.from levels.now }
-{
-    // Kept: `out[i]`; tried over `out.iter_mut().zip(levels)`, where the proof did not close: nothing is known of the elements then.
-    for (i, level) in levels.iter().enumerate() {
-        out[i] = T::from_u32(*level);
-    }
-}
 
 /// Appends levels, which fit.
 fn append_levels<T: Number>(levels: &[u32], out: &mut Area<'_, T>)
@@ -34,7 +24,7 @@ fn append_levels<T: Number>(levels: &[u32], out: &mut Area<'_, T>)
 {
     let at = out.len();
     let n = levels.len();
-    write_levels(levels, &mut out.slice[at..at + n]);
+    write_numbers(levels, &mut out.slice[at..at + n]);
     out.advance(n);
 }
 

@@ -19,7 +19,7 @@ pub(crate) fn level_reader<'a>(
     ensures { to_come result ≡ levels (above_zero max_level) encoding «data».now }
 {
     let width = Width::new(level_width(max_level)).unwrap();
-    let limit = top(max_level) as u64 + 1;
+    let limit = u64::from(top(max_level)) + 1;
     match encoding {
         LevelEncoding::Rle => RunReader::hybrid(data, width, limit),
         LevelEncoding::BitPacked => RunReader::bit_packed(data, width, limit),

@@ -70,24 +70,20 @@ impl<'a> LevelSource<'a> for Ahead<'a> {
     fn take(&mut self, out: &mut Area<'_, i16>, asked: Asked) -> Result<Course, LevelRefusal> {
         let count = out.count;
         let room = out.room();
-        match admit(self.walk_on(out, asked), room) {
-            Ok(course) => Ok(course),
-            Err(refusal) => {
-                out.set_back(count);
-                self.restart(RunReader::empty());
-                Err(refusal)
-            }
+        let course = admit(self.walk_on(out, asked), room);
+        if course.is_err() {
+            out.set_back(count);
+            self.restart(RunReader::empty());
         }
+        course
     }
 
     fn pass(&mut self, asked: Asked) -> Result<Course, LevelRefusal> {
         let mut nowhere = Area::missing();
-        match admit(self.walk_on(&mut nowhere, asked), asked.levels) {
-            Ok(course) => Ok(course),
-            Err(refusal) => {
-                self.restart(RunReader::empty());
-                Err(refusal)
-            }
+        let course = admit(self.walk_on(&mut nowhere, asked), asked.levels);
+        if course.is_err() {
+            self.restart(RunReader::empty());
         }
+        course
     }
 }

@@ -80,7 +80,7 @@ impl fmt::Display for MakingFault {
     ghost output = { λ f. Some (making_words f) };
 
     fn fmt<W: fmt::Write>(&self, f: &mut fmt::Formatter<W>) -> fmt::Result {
-        f.write_str(self.as_str())
+        f.write_str(MakingFault::as_str(*self))
     }
 }
 

@@ -1,5 +1,5 @@
 -- Laws of the numbers of a run.
-use Rattle.std.proofs.Common.{◌≡◌, ℕ, zero, suc, ◌+◌, ◌-◌, ◌*◌, ◌/◌, ◌^◌, ◌<◌, ◌≤◌, min, cond, List, ◌++◌, map, length, get_or, take, drop, replicate, sym, refl, ap, ◌∙◌, mod-lt, arith, pow_pos, le-ltb}
+use Rattle.std.proofs.Common.{◌≡◌, ℕ, zero, suc, ◌+◌, ◌-◌, ◌*◌, ◌/◌, ◌^◌, ◌<◌, ◌≤◌, min, cond, List, ◌∷◌, ◌++◌, map, length, get_or, take, drop, replicate, sym, refl, ap, ◌∙◌, mod-lt, arith, pow_pos, le-ltb}
 use Rattle.std.proofs.lemmas.List.{append_assoc, drop-append-le, length-take-le, take-append-drop, take-take, length-replicate, get_or-replicate, get_or-drop, take-replicate, take_min}
 use Rattle.stream.specs.Packing.{le, be, from_below, from_above, low_first, high_first}
 use Rattle.run.specs.declared.order.Order.{Order}
@@ -45,6 +45,10 @@ good_width o w a n limit bs h =
     let l = part_length o w a n bs in
     sym (good_all limit (part o w a n bs) (λ i k. omega (arith, part_top o w a n bs i (omega arith))) ∙ l)
 
+map_copies : {X : Type 0} (f : ℕ → X) (n v : ℕ) → replicate n (f v) ≡ map f (replicate n v)
+map_copies f zero v = refl
+map_copies f (suc n) v = ap (λ z. f v ∷ z) (map_copies f n v)
+
 -- of the numbers of a part `m` are looked at, or all that there are
 pub front_good : (p q : Part) (m n : ℕ) → n ≡ min m p.count → numbers q ≡ take n (numbers p) → numbers q ≡ take m (numbers p)
 front_good p q m n e f = f ∙ (ap (λ k. take k (numbers p)) (e ∙ ap (min m) (sym (numbers_length p))) ∙ take_min m (numbers p))
@@ -61,7 +65,7 @@ wrote_front f o w xs ys n k h l e g =
     ∙ ap (λ p. map f (take k xs) ++ p) (sym (drop-append-le k (take n o) (drop n o) (omega (arith, length-take-le n o h))) ∙ ap (drop k) (take-append-drop n o)))
 
 -- the same of copies
-pub wrote_copies : {X : Type 0} (f : ℕ → X) (o w : List X) (v c n : ℕ) → n ≤ length o → n ≤ c → w ≡ map f (replicate (length (take n o)) v)
+pub wrote_copies : {X : Type 0} (f : ℕ → X) (o w : List X) (v c n : ℕ) (y : X) → n ≤ length o → n ≤ c → y ≡ f v → w ≡ replicate (length (take n o)) y
     → w ++ drop n o ≡ map f (take n (replicate c v)) ++ drop n o
-wrote_copies f o w v c n h l e =
-    ap (λ z. z ++ drop n o) (e ∙ ap (map f) (ap (λ k. replicate k v) (length-take-le n o h) ∙ sym (take-replicate n c v l)))
+wrote_copies f o w v c n y h l g e =
+    ap (λ z. z ++ drop n o) (e ∙ (ap (λ k. replicate k y) (length-take-le n o h) ∙ (ap (replicate n) g ∙ (map_copies f n v ∙ ap (map f) (sym (take-replicate n c v l))))))

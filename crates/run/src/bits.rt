@@ -18,7 +18,7 @@ impl<'a> RunReader<'a> {
     {
         let bits = width.bits() as usize;
         if bits == 0 {
-            return RunReader::ended(width);
+            return RunReader::hybrid(&[], width, limit);
         }
         // So many bytes hold more numbers than a run may have, at any width; below, eight times the length fits.
         if bytes.len() >= 1 << 34 {

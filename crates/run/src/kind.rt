@@ -2,6 +2,7 @@
 
 ghost use Rattle.std.specs.Prelude.{◌≡◌};
 
+use crate::copies::Copies;
 use crate::packed::Part;
 use stream::header::RunFault;
 
@@ -20,8 +21,8 @@ impl From<RunFault> for StreamFault {
 /// What is left of the run that is being read.
 #[derive(Clone, Copy)]
 pub enum Run<'a> {
-    /// So many copies of a value.
-    Repeated { value: u32, count: usize },
+    /// Copies of a number.
+    Repeated(Copies),
     /// Packed numbers.
     Packed(Part<'a>),
 }

@@ -2,6 +2,7 @@
 #![tactic(auto)]
 
 mod bits;
+pub mod copies;
 mod high;
 pub mod kind;
 mod limit;
@@ -13,7 +14,6 @@ pub mod packed;
 mod part;
 mod read;
 pub mod reader;
-mod repeated;
 mod steps;
 pub mod theorems;
 mod word;

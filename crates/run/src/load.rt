@@ -5,6 +5,7 @@ ghost use Rattle.stream.specs.Packing.{low_first};
 ghost use Rattle.stream.specs.Streams.{hybrid, within, ended, clean, value_bytes};
 ghost use Rattle.run.specs.Coming.{to_come, Continues, Stopped};
 
+use crate::copies::Copies;
 use crate::kind::{Run, StreamFault};
 use crate::order::Order;
 use crate::packed::Part;
@@ -14,11 +15,12 @@ use stream::header::{Start, read_header, read_start};
 
 impl<'a> RunReader<'a> {
     /// Goes on to the next run, once this one is read, and tells whether there is one; a fault too where a number comes next that is not good.
+    // Kept: a flag, with the reader changed in place. Tried as a new reader in an Option; short runs then took half as long again.
     pub(crate) fn next_run(&mut self) -> Result<bool, StreamFault>
         requires { Stopped self.old }
         ensures { Continues self.old result self.new }
     {
-        if self.run.len() > 0 {
+        if !self.run.is_empty() {
             return Err(StreamFault);
         }
         let Some(header) = read_header(self.bytes)? else {
@@ -27,11 +29,11 @@ impl<'a> RunReader<'a> {
         let rest = &self.bytes[header.more + 1..];
         match read_start(self.width, header.number, rest)? {
             None => Ok(false),
-            Some(Start::Repeated(count, value)) => {
+            Some(Start::Repeated { count, value }) => {
                 self.start_repeated(rest, count, value);
                 Ok(true)
             }
-            Some(Start::Packed(groups)) => {
+            Some(Start::Packed { groups }) => {
                 self.start_packed(rest, groups);
                 Ok(true)
             }
@@ -40,15 +42,16 @@ impl<'a> RunReader<'a> {
 
     /// Goes on behind the header of a repeated run.
     fn start_repeated(&mut self, rest: &'a [u8], count: u32, value: u32)
-        requires { value_bytes self.old.width.bits ≤ length rest.now }
+        requires there { value_bytes self.old.width.bits ≤ length rest.now }
+        requires few { count ≤ 2147483647 }
         ensures is { to_come self.new ≡ within self.old.limit (replicate count value) (hybrid self.old.width.bits self.old.limit (drop (value_bytes self.old.width.bits) rest.now)) }
         ensures on { length self.new.bytes.now ≤ length rest.now }
     {
         self.bytes = &rest[self.width.value_bytes()..];
-        self.run = Run::Repeated {
+        self.run = Run::Repeated(Copies {
             value,
             count: count as usize,
-        };
+        });
     }
 
     /// Goes on behind the header of a packed run; the end of the bytes may cut it.

@@ -4,6 +4,7 @@ ghost use Rattle.std.specs.Prelude.{◌≡◌};
 ghost use Rattle.stream.specs.Streams.{hybrid, ended, clean, fault};
 ghost use Rattle.run.specs.Coming.{to_come};
 
+use crate::copies::Copies;
 use crate::kind::Run;
 use crate::reader::RunReader;
 use stream::width::Width;
@@ -17,7 +18,7 @@ impl<'a> RunReader<'a> {
             width,
             limit,
             bytes,
-            run: Run::Repeated { value: 0, count: 0 },
+            run: Run::Repeated(Copies { value: 0, count: 0 }),
         }
     }
 
@@ -25,22 +26,7 @@ impl<'a> RunReader<'a> {
     pub fn empty() -> RunReader<'a>
         ensures { to_come result ≡ ended clean }
     {
-        match Width::new(0) {
-            Some(width) => RunReader::ended(width),
-            None => unreachable(),
-        }
-    }
-
-    /// A reader at a clean end.
-    pub(crate) fn ended(width: Width) -> RunReader<'a>
-        ensures { to_come result ≡ ended clean }
-    {
-        RunReader {
-            width,
-            limit: 0,
-            bytes: &[],
-            run: Run::Repeated { value: 0, count: 0 },
-        }
+        RunReader::hybrid(&[], Width::new(0).unwrap(), 0)
     }
 
     /// A reader at a fault: a number where none is good.
@@ -51,7 +37,7 @@ impl<'a> RunReader<'a> {
             width,
             limit: 0,
             bytes: &[],
-            run: Run::Repeated { value: 0, count: 1 },
+            run: Run::Repeated(Copies { value: 0, count: 1 }),
         }
     }
 }

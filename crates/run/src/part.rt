@@ -9,6 +9,7 @@ use crate::low::low_bits;
 use crate::order::Order;
 use crate::packed::Part;
 use element::number::Number;
+use element::slices::write_numbers;
 
 /// How many numbers are unpacked before they are held against a limit.
 const BLOCK: usize = 256;
@@ -22,44 +23,38 @@ pub(crate) fn numbers_in(len: usize, width: usize) -> usize
     8 * len / width
 }
 
+// Kept: `length out.old ≡ self.count` in four contracts. A type of as many places as numbers would be made and taken apart at each of their calls.
 impl<'a> Part<'a> {
     /// The first `n` of the numbers.
-    pub(crate) fn front(self, n: usize) -> Part<'a>
+    pub(crate) fn front(mut self, n: usize) -> Part<'a>
         requires { n ≤ self.count }
         ensures order { result.order ≡ self.entry.order }
         ensures count { result.count ≡ n }
         ensures numbers { numbers result ≡ take n (numbers self.entry) }
     {
-        Part {
-            order: self.order,
-            width: self.width,
-            bytes: self.bytes,
-            skip: self.skip,
-            count: n,
-        }
+        self.count = n;
+        self
     }
 
     /// The numbers behind the first `n`.
-    pub(crate) fn behind(self, n: usize) -> Part<'a>
+    pub(crate) fn behind(mut self, n: usize) -> Part<'a>
         requires { n ≤ self.count }
         ensures order { result.order ≡ self.entry.order }
         ensures skip { result.skip ≡ self.entry.skip + n }
         ensures count { result.count + n ≡ self.entry.count }
         ensures numbers { numbers result ≡ drop n (numbers self.entry) }
     {
-        Part {
-            order: self.order,
-            width: self.width,
-            bytes: self.bytes,
-            skip: self.skip + n,
-            count: self.count - n,
-        }
+        self.advance(n);
+        self
     }
 
     /// Passes over the first `n` of the numbers.
     pub(crate) fn advance(&mut self, n: usize)
         requires { n ≤ self.old.count }
-        ensures { numbers self.new ≡ drop n (numbers self.old) }
+        ensures order { self.new.order ≡ self.old.order }
+        ensures skip { self.new.skip ≡ self.old.skip + n }
+        ensures count { self.new.count + n ≡ self.old.count }
+        ensures numbers { numbers self.new ≡ drop n (numbers self.old) }
     {
         // In this order, so that the numbers lie whole in the bytes at each step.
         self.count -= n;
@@ -154,20 +149,9 @@ impl<'a> Part<'a> {
         let mut k = 0;
         while rest.count > 0 {
             let n = rest.next_good(limit, &mut held);
-            place(&held[..n], &mut out[k..k + n]);
+            write_numbers(&held[..n], &mut out[k..k + n]);
             k += n;
         }
         k
-    }
-}
-
-/// Writes the numbers.
-fn place<T: Number>(numbers: &[u32], out: &mut [T])
-    requires { length out.old ≡ length numbers.now }
-    ensures { out.new ≡ map T.Number.from numbers.now }
-{
-    // Kept: an index into the one slice. Through a `zip` of both (tried) no invariant sees what is written.
-    for (i, x) in out.iter_mut().enumerate() {
-        *x = T::from_u32(numbers[i]);
     }
 }

@@ -1,14 +1,16 @@
 //! Steps within a run.
 
-ghost use Rattle.std.specs.Prelude.{◌≡◌, ◌≤◌, ◌<◌, ◌++◌, map, length, take, drop, nat_lt};
-ghost use Rattle.run.specs.Packed.{good};
+ghost use Rattle.std.specs.Prelude.{◌≡◌, ◌≤◌, ◌<◌, ◌++◌, map, length, take, drop, nat_lt, ◌==◌};
+ghost use Rattle.run.specs.Packed.{numbers, good};
 ghost use Rattle.run.specs.Coming.{next_of, Steps, Stopped};
-ghost use Rattle.run.specs.Runs.{left_of};
+ghost use Rattle.run.specs.Runs.{copied, left_of};
 
+use crate::copies::Copies;
 use crate::kind::Run;
+use crate::packed::Part;
 use crate::reader::RunReader;
-use crate::repeated::repeat;
 use element::number::Number;
+use element::slices::fill_all;
 
 /// Whether a number is good.
 fn below(x: u32, limit: u64) -> bool
@@ -17,15 +19,71 @@ fn below(x: u32, limit: u64) -> bool
     u64::from(x) < limit
 }
 
+// Kept: `pass` beside `take`, here and below. One function of both would take the places as an option, and say of them in every clause what is said
+// where there are some.
+impl Copies {
+    /// Passes over the next copies, `m` at most, or over none where they are not below the limit; tells how many.
+    fn pass(&mut self, limit: u64, m: usize) -> usize
+        ensures is { result ≡ good limit (take m (copied self.old)) }
+        ensures left { copied self.new ≡ drop result (copied self.old) }
+    {
+        if !below(self.value, limit) {
+            return 0;
+        }
+        let n = m.min(self.count);
+        self.count -= n;
+        n
+    }
+
+    /// Writes the next copies, as many as there are places, or none where they are not below the limit; tells how many.
+    fn take<T: Number>(&mut self, limit: u64, out: &mut [T]) -> usize
+        ensures is { result ≡ good limit (take (length out.old) (copied self.old)) }
+        ensures left { copied self.new ≡ drop result (copied self.old) }
+        ensures written { out.new ≡ map T.Number.from (take result (copied self.old)) ++ drop result out.old }
+    {
+        if !below(self.value, limit) {
+            return 0;
+        }
+        let n = out.len().min(self.count);
+        fill_all(&mut out[..n], T::from_u32(self.value));
+        self.count -= n;
+        n
+    }
+}
+
+impl<'a> Part<'a> {
+    /// Passes over the next numbers, `m` at most, but none from the first on that is not below the limit; tells how many.
+    fn pass(&mut self, limit: u64, m: usize) -> usize
+        ensures is { result ≡ good limit (take m (numbers self.old)) }
+        ensures left { numbers self.new ≡ drop result (numbers self.old) }
+    {
+        let k = self.front(m.min(self.count)).good(limit);
+        self.advance(k);
+        k
+    }
+
+    /// Writes the next numbers, as many as there are places, but none from the first on that is not below the limit; tells how many.
+    fn take<T: Number>(&mut self, limit: u64, out: &mut [T]) -> usize
+        ensures is { result ≡ good limit (take (length out.old) (numbers self.old)) }
+        ensures left { numbers self.new ≡ drop result (numbers self.old) }
+        ensures written { out.new ≡ map T.Number.from (take result (numbers self.old)) ++ drop result out.old }
+    {
+        let n = out.len().min(self.count);
+        let k = self.front(n).unpack_good(limit, &mut out[..n]);
+        self.advance(k);
+        k
+    }
+}
+
 impl<'a> Run<'a> {
-    /// How many numbers are left.
+    /// Whether a number is left.
     #[tactic(auto, using(crate::proofs::PackedParts::numbers_length))]
-    pub(crate) fn len(self) -> usize
-        ensures { result ≡ length (left_of self.entry) }
+    pub(crate) fn is_empty(self) -> bool
+        ensures { result ≡ (length (left_of self.entry) == 0) }
     {
         match self {
-            Run::Repeated { count, .. } => count,
-            Run::Packed(part) => part.count,
+            Run::Repeated(copies) => copies.count == 0,
+            Run::Packed(part) => part.count == 0,
         }
     }
 
@@ -35,19 +93,8 @@ impl<'a> Run<'a> {
         ensures left { left_of self.new ≡ drop result (left_of self.old) }
     {
         match self {
-            Run::Repeated { value, count } => {
-                if !below(*value, limit) {
-                    return 0;
-                }
-                let n = m.min(*count);
-                *count -= n;
-                n
-            }
-            Run::Packed(part) => {
-                let k = part.front(m.min(part.count)).good(limit);
-                part.advance(k);
-                k
-            }
+            Run::Repeated(copies) => copies.pass(limit, m),
+            Run::Packed(part) => part.pass(limit, m),
         }
     }
 
@@ -58,21 +105,8 @@ impl<'a> Run<'a> {
         ensures written { out.new ≡ map T.Number.from (take result (left_of self.old)) ++ drop result out.old }
     {
         match self {
-            Run::Repeated { value, count } => {
-                if !below(*value, limit) {
-                    return 0;
-                }
-                let n = out.len().min(*count);
-                repeat(&mut out[..n], *value);
-                *count -= n;
-                n
-            }
-            Run::Packed(part) => {
-                let n = out.len().min(part.count);
-                let k = part.front(n).unpack_good(limit, &mut out[..n]);
-                part.advance(k);
-                k
-            }
+            Run::Repeated(copies) => copies.take(limit, out),
+            Run::Packed(part) => part.take(limit, out),
         }
     }
 }

@@ -28,10 +28,10 @@ pub struct Header {
 /// A run as its header announces it.
 #[derive(Clone, Copy)]
 pub enum Start {
-    /// As many copies of a value: the count, then the value.
-    Repeated(u32, u32),
+    /// As many copies of a value.
+    Repeated { count: u32, value: u32 },
     /// As many groups of eight packed numbers.
-    Packed(u32),
+    Packed { groups: u32 },
 }
 
 /// The most numbers that a run may have.
@@ -97,7 +97,7 @@ fn number(bytes: &[u8]) -> u32
 fn no_groups() -> Result<Option<Start>, RunFault>
     ensures { result ≡ no_groups }
 {
-    Ok(Some(Start::Packed(0)))
+    Ok(Some(Start::Packed { groups: 0 }))
 }
 
 /// The run that the header `h` announces, where `rest` is what lies behind the header; none at header 0, behind which nothing counts.
@@ -109,11 +109,13 @@ pub fn read_start(width: Width, h: u128, rest: &[u8]) -> Result<Option<Start>, R
         h if h % 2 == 0 && h / 2 > LONGEST => Err(RunFault::LongRun),
         h if h % 2 == 1 && h / 2 > LONGEST / 8 => Err(RunFault::LongRun),
         h if h % 2 == 0 && rest.len() < width.value_bytes() => Err(RunFault::NoValue),
-        h if h % 2 == 0 => Ok(Some(Start::Repeated(
-            (h / 2) as u32,
-            number(&rest[0..width.value_bytes()]),
-        ))),
+        h if h % 2 == 0 => Ok(Some(Start::Repeated {
+            count: (h / 2) as u32,
+            value: number(&rest[..width.value_bytes()]),
+        })),
         1 => no_groups(),
-        h => Ok(Some(Start::Packed((h / 2) as u32))),
+        h => Ok(Some(Start::Packed {
+            groups: (h / 2) as u32,
+        })),
     }
 }

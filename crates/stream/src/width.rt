@@ -34,6 +34,6 @@ impl Width {
         ensures is { result ≡ value_bytes self.bits }
         ensures small { result ≤ 4 }
     {
-        (self.bits as usize + 7) / 8
+        (self.bits as usize).div_ceil(8)
     }
 }

@@ -135,7 +135,7 @@ fn case(rt: &HostRuntime, line: &str, words: &[&str]) -> io::Result<()> {
     let [kind, width, limit, bytes, asked] = words else {
         return println!(rt; "{line}: no case");
     };
-    let Some(width) = Width::new(width.parse::<u32>().unwrap_or(33)) else {
+    let Some(width) = width.parse::<u32>().ok().and_then(Width::new) else {
         return println!(rt; "{line}: no width");
     };
     let limit = limit.parse::<u64>().unwrap_or(0);

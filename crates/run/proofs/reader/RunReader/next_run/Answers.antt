@@ -1,5 +1,6 @@
 use Rattle.std.proofs.Common.{◌≡◌, ℕ, ◌+◌, ◌-◌, ◌<◌, ◌≤◌, List, length, take, drop, sym, refl, ap, ◌∙◌, arith}
 use Rattle.std.proofs.lemmas.List.{length-take, length-drop, nil_from_length}
+use Rattle.std.proofs.lemmas.Bool.{eqb-true}
 use Rattle.run.specs.Runs.{left_of}
 use Rattle.run.proofs.Loads.{run_done, repeated_next, packed_next}
 use Rattle.run.proofs.reader.RunReader.next_run.Goals as goal
@@ -18,7 +19,7 @@ returns-in-Some-Repeated c =
     let head = rw c.in-Some.is at c.in_ok-header.ensures.is in
     let small = rw c.in-Some.is at c.in_ok-header.ensures.small in
     let start = rw c.in-Some-Repeated.field-0-is at (rw c.in-Some-Repeated.is at c.in_ok-read_start.ensures) in (
-      run_done s (nil_from_length (left_of s.run) (omega (arith, c.len.ensures)))
+      run_done s (nil_from_length (left_of s.run) (eqb-true (length (left_of s.run)) 0 (sym c.is_empty.ensures ∙ c.if-not-is_empty.false)))
           ∙ (repeated_next s.width.bits s.limit h n d rest head refl c.in-Some-Repeated.count c.in-Some-Repeated.value start ∙ sym c.start_repeated.ensures.is),
       shorter d rest n (length c.start_repeated.new.self.bytes.now) refl small.2 c.start_repeated.ensures.on,
     )
@@ -33,7 +34,7 @@ returns-in-Some-Packed c =
     let head = rw c.in-Some.is at c.in_ok-header.ensures.is in
     let small = rw c.in-Some.is at c.in_ok-header.ensures.small in
     let start = rw c.in-Some-Packed.field-0-is at (rw c.in-Some-Packed.is at c.in_ok-read_start.ensures) in (
-      run_done s (nil_from_length (left_of s.run) (omega (arith, c.len.ensures)))
+      run_done s (nil_from_length (left_of s.run) (eqb-true (length (left_of s.run)) 0 (sym c.is_empty.ensures ∙ c.if-not-is_empty.false)))
           ∙ (packed_next s.width.bits s.limit h n d rest head refl c.in-Some-Packed.groups start ∙ sym c.start_packed.ensures.is),
       shorter d rest n (length c.start_packed.new.self.bytes.now) refl small.2 c.start_packed.ensures.on,
     )

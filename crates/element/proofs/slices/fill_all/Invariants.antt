@@ -1,5 +1,5 @@
 use Rattle.std.proofs.Common.{◌≡◌, take, replicate}
-use Rattle.area.proofs.fill.fill_all.Given as goal
+use Rattle.element.proofs.slices.fill_all.Given as goal
 
 abbrev pub invariant-loop-slot : goal.invariant-loop-slot
 invariant-loop-slot g l = take l.slot-index l.out ≡ replicate l.slot-index l.x

@@ -25,6 +25,7 @@ pub fn bytes_of(heap: Global, word: &str) -> Result<Vec<u8>, AllocError>
 {
     let mut bytes = Vec::new(heap);
     let mut rest = word.as_bytes();
+    // Kept: a pattern and the rest behind it. Over `chunks(2)` each piece would be tested for its length again.
     while let [high, low, behind @ ..] = rest {
         bytes.push(digit(*high) * 16 + digit(*low))?;
         rest = behind;

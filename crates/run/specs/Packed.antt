@@ -4,7 +4,6 @@ use Rattle.std.specs.List.{prefix_len}
 use Rattle.stream.specs.Packing.{low_first, high_first}
 use Rattle.run.specs.declared.packed.Part.{Part}
 use Rattle.run.specs.declared.order.Order.{Order}
-use Rattle.run.specs.declared.packed.Part.{Part}
 use Rattle.run.specs.declared.order.Order.TheVariants.{LowFirst, HighFirst}
 
 -- the `n` numbers behind the first `a` of those packed from the lowest bit up

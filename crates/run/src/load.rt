@@ -1,6 +1,6 @@
 //! On to the next run.
 
-ghost use Rattle.std.specs.Prelude.{◌≡◌, ◌+◌, ◌*◌, ◌/◌, ◌<◌, ◌≤◌, length, drop, replicate, if◌then◌else◌, nat_le};
+ghost use Rattle.std.specs.Prelude.{◌≡◌, ◌+◌, ◌*◌, ◌/◌, ◌^◌, ◌<◌, ◌≤◌, length, drop, replicate, if◌then◌else◌, nat_le};
 ghost use Rattle.stream.specs.Packing.{low_first};
 ghost use Rattle.stream.specs.Streams.{hybrid, within, ended, clean, value_bytes};
 ghost use Rattle.run.specs.Coming.{to_come, Continues, Stopped};
@@ -12,6 +12,15 @@ use crate::packed::Part;
 use crate::part::numbers_in;
 use crate::reader::RunReader;
 use stream::header::{Start, read_header, read_start};
+
+/// How many numbers a packed run has that the end of the bytes cuts.
+fn cut_numbers(rest: &[u8], width: usize) -> usize
+    requires some_bits { 0 < width }
+    requires short { length rest.now < 2 ^ 34 }
+    ensures { result ≡ 8 * length rest.now / width }
+{
+    numbers_in(rest.len(), width)
+}
 
 impl<'a> RunReader<'a> {
     /// Goes on to the next run, once this one is read, and tells whether there is one; a fault too where a number comes next that is not good.
@@ -65,7 +74,7 @@ impl<'a> RunReader<'a> {
         let count = if size <= rest.len() {
             8 * groups as usize
         } else {
-            numbers_in(rest.len(), width)
+            cut_numbers(rest, width)
         };
         self.bytes = &rest[size.min(rest.len())..];
         self.run = Run::Packed(Part {

@@ -15,8 +15,8 @@ invariant_of-self c =
         whole = fits_whole c.args.self.now.width.bits b c.args.groups n rest c.bits-width.ensures.is w.count-is w.if-size-rest.true;
       }
       | else-size-rest w ↦ record {
-        short = omega (arith, w.count-is, w.numbers_in-count.ensures, cut_few b c.args.groups (length rest) w.if-size-rest.false);
-        whole = fits_cut c.args.self.now.width.bits b n rest c.bits-width.ensures.is (w.count-is ∙ w.numbers_in-count.ensures);
+        short = omega (arith, w.count-is, w.cut_numbers-count.ensures, cut_few b c.args.groups (length rest) w.if-size-rest.false);
+        whole = fits_cut c.args.self.now.width.bits b n rest c.bits-width.ensures.is (w.count-is ∙ w.cut_numbers-count.ensures);
       }
     ]
 
@@ -29,7 +29,7 @@ returns c =
     record {
       is = elim c.if-size-rest.branch [
         | then-size-rest w ↦ next_whole s.width.bits b s.limit c.args.groups n c.min.result rest c.bits-width.ensures.is w.count-is c.min.ensures w.if-size-rest.true
-        | else-size-rest w ↦ next_cut s.width.bits b s.limit c.args.groups n c.min.result rest c.bits-width.ensures.is (w.count-is ∙ w.numbers_in-count.ensures) c.min.ensures w.if-size-rest.false
+        | else-size-rest w ↦ next_cut s.width.bits b s.limit c.args.groups n c.min.result rest c.bits-width.ensures.is (w.count-is ∙ w.cut_numbers-count.ensures) c.min.ensures w.if-size-rest.false
       ];
       on = simp (length-take, length-drop) (omega arith);
     }

@@ -23,7 +23,8 @@ pub(crate) fn numbers_in(len: usize, width: usize) -> usize
     8 * len / width
 }
 
-// Kept: `length out.old ≡ self.count` in four contracts. A type of as many places as numbers would be made and taken apart at each of their calls.
+// Kept: `length out.old ≡ self.count` in four contracts, and what is written in three. A type of as many places as numbers would be made and taken apart
+// at each of their calls.
 impl<'a> Part<'a> {
     /// The first `n` of the numbers.
     pub(crate) fn front(mut self, n: usize) -> Part<'a>

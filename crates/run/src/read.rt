@@ -24,6 +24,7 @@ impl<'a> RunReader<'a> {
         reply
     }
 
+    // Kept: `filled` in three contracts. Each of the three calls hands on what the next one wrote, and its caller has to know it.
     /// The same, but a fault leaves the reader at the end of what was read.
     fn read_through<T: Number>(&mut self, out: &mut [T]) -> Result<usize, StreamFault>
         ensures reply { result ≡ replied (length out.old) (to_come self.old) }

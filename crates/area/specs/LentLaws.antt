@@ -18,6 +18,9 @@ two_parts m n r = grind (arith, nat_tests)
 free_after : (l : Lent) (xs : List Val) → free (more l xs) ≡ free l - length xs
 free_after l xs = simp (length-append, length-drop) (omega arith)
 
+fitting : (a b : ℕ) → nat_le a b ≡ true → a ≤ b
+fitting a b h = leb-true a b h
+
 fits_more : (l : Lent) (xs ys : List Val) → has_room l (xs ++ ys) ≡ (has_room l xs && has_room (more l xs) ys)
 fits_more l xs ys =
     ap (λ (k : ℕ). leb k (free l)) (length-append xs ys)
@@ -27,7 +30,7 @@ fits_more l xs ys =
 blanks : (b : Val) (l : Lent) (xs : List Val) → has_room l xs ≡ true → set_back b (more l xs) (held_count l) ≡ set_back b l (held_count l)
 blanks b l xs h =
     let n = length l.filled in
-    let room = leb-true (length xs) (free l) h in
+    let room = fitting (length xs) (free l) h in
     let front : take n (l.filled ++ xs) ≡ take n l.filled = take_at l.filled xs n refl ∙ sym (take_all n l.filled (omega arith)) in
     let back : (length (l.filled ++ xs) - n) + length (drop (length xs) l.behind) ≡ (n - n) + length l.behind = simp (length-append, length-drop) (omega (arith, room)) in
     ap (λ (f : List Val). with l f (replicate ((length (l.filled ++ xs) - n) + length (drop (length xs) l.behind)) b)) front
@@ -41,7 +44,7 @@ lent_laws b = record {
       ∙ ap (with l (l.filled ++ (xs ++ ys))) (drop-drop (length ys) (length xs) l.behind ∙ ap (λ (k : ℕ). drop k l.behind) (sym (length-append xs ys)));
   fits_none = λ l. le-leb 0 (free l) (omega arith);
   fits_more = fits_more;
-  short = λ l xs h. let room = leb-true (length xs) (free l) h in omega (arith, room);
+  short = λ l xs h. let room = fitting (length xs) (free l) h in omega (arith, room);
   counts = λ l xs. length-append l.filled xs;
   blanks = blanks b;
 }

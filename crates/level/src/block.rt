@@ -18,6 +18,7 @@ pub(crate) fn rep_course(reader: RunReader<'_>, asked: Asked) -> Result<Course, 
     ensures there { IfOk result (λ c. c.taken ≤ length (to_come reader.entry).numbers) }
 {
     let mut ahead = reader;
+    // Kept: an array, since a decoder has no heap.
     let mut block = [0u32; 1024];
     let mut walk = Walk::none(asked.opened);
     'walks: loop {

@@ -14,6 +14,7 @@ pub(crate) fn def_course(reader: RunReader<'_>, max: u32, m: usize) -> Result<Co
     ensures there { IfOk result (λ c. c.taken ≤ length (to_come reader.entry).numbers) }
 {
     let mut ahead = reader;
+    // Kept: an array, since a decoder has no heap; and a loop over blocks as in `rep_course`, which stops within one.
     let mut block = [0u32; 1024];
     let mut taken = 0;
     let mut told = 0;

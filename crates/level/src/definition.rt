@@ -27,6 +27,7 @@ pub trait DefinitionLevelDecoder<'a>: ColumnLevelDecoder<'a> {
 
     /// Takes `num_levels` levels, or those before a clean end, and appends them; tells how many equal the maximum, then how many it took.
     /// At a clean end the front that fits is appended. A refused call leaves nothing to come.
+    // Kept: two counts as the Rust crate tells them, here and in the calls below; a struct would give its callers other names.
     fn read_def_levels(
         &mut self,
         out: &mut Area<'_, Self::Level>,

@@ -15,6 +15,7 @@ use crate::refusal::LevelRefusal;
 use crate::source::LevelSource;
 use area::area::Area;
 use run::reader::RunReader;
+use std::mem;
 
 /// A decoder of repetition levels.
 pub trait RepetitionLevelDecoder<'a>: ColumnLevelDecoder<'a> {
@@ -102,8 +103,6 @@ impl<'a, S: LevelSource<'a> + Drop> RepetitionLevelDecoder<'a> for RepetitionDec
     }
 
     fn flush_partial(&mut self) -> bool {
-        let partial = self.partial;
-        self.partial = false;
-        partial
+        mem::replace(&mut self.partial, false)
     }
 }

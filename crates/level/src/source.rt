@@ -36,6 +36,7 @@ pub trait LevelSource<'a>: Sized {
         ensures holds { out.new ≡ area_of level (pos 0) result (stream self.old) out.old };
 
     /// Takes the levels of a call, and leaves them out.
+    // Kept: `pass` beside `take`, here, in the decoders and below. What has no area says nothing of one.
     fn pass(&mut self, asked: Asked) -> Result<Course, LevelRefusal>
         ensures told { result ≡ admitted asked.levels (course_of asked (stream self.old)) }
         ensures comes { stream self.new ≡ left_of result (stream self.old) };

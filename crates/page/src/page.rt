@@ -8,6 +8,7 @@ use std::fmt;
 /// A page, with its bytes lent by the source, uncopied. `place` is where they begin in the
 /// source's data: a listing shows it, no decoder reads it. Encodings are the bytes of the page's
 /// header as they are, known or not.
+// Kept: encodings as numbers, for they are the bytes of a header, known or not.
 #[derive(Clone, Copy)]
 pub enum Page<'a> {
     /// The values that data pages of encodings 2 and 8 look up.
@@ -56,20 +57,13 @@ impl fmt::Display for Page<'_> {
 
     fn fmt<W: fmt::Write>(&self, f: &mut fmt::Formatter<W>) -> fmt::Result {
         let fields = Fields(*self);
-        match *self {
-            Page::DictionaryPage { place, buf, .. } => {
-                let length = buf.len();
-                write!(f, "dictionary place {place} length {length} {fields}")
-            }
-            Page::DataPage { place, buf, .. } => {
-                let length = buf.len();
-                write!(f, "v1 place {place} length {length} {fields}")
-            }
-            Page::DataPageV2 { place, buf, .. } => {
-                let length = buf.len();
-                write!(f, "v2 place {place} length {length} {fields}")
-            }
-        }
+        let (kind, place, buf) = match *self {
+            Page::DictionaryPage { place, buf, .. } => ("dictionary", place, buf),
+            Page::DataPage { place, buf, .. } => ("v1", place, buf),
+            Page::DataPageV2 { place, buf, .. } => ("v2", place, buf),
+        };
+        let length = buf.len();
+        write!(f, "{kind} place {place} length {length} {fields}")
     }
 }
 

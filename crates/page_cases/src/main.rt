@@ -37,6 +37,7 @@ enum Words {
 
 impl Words {
     /// Takes the words of a source off the front of `words`; others are a source of no width.
+    // Kept: raw values of no width for words of no kind, since the table prints the refusal of those.
     fn take<'w>(heap: Global, words: &'w [&'w str]) -> Result<(Words, &'w [&'w str]), AllocError> {
         match words {
             ["strip", records, data, rest @ ..] => {
@@ -105,6 +106,7 @@ fn reply<'a, S: PageReader<'a>>(
             None => println!(rt; "none"),
         },
         b'g' => match source.get_next_page()? {
+            // Kept: the text of `page_line`, whose want of memory `?` cannot pass on here.
             Some(page) => println!(rt; "{number}: {page}"),
             None => println!(rt; "none"),
         },

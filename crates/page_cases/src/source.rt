@@ -8,6 +8,7 @@ use raw::Raw;
 use strip::source::Strip;
 
 /// A strip or raw values.
+// Kept: an enum. Tried as a `dyn PageReader<'a>`; the language refuses one, for the lifetime of its trait.
 #[derive(Drop)]
 pub(crate) enum Source<'a> {
     Strip(Strip<'a>),

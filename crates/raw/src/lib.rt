@@ -27,6 +27,7 @@ pub(crate) enum Width {
 
 /// Values of one width, cut into V1 pages of equally many, the last perhaps shorter. `at` is
 /// where the next page begins.
+// Kept: the place beside the values, since each page tells where it begins.
 #[derive(Drop)]
 pub struct Raw<'a> {
     values: &'a [u8],
@@ -129,6 +130,7 @@ impl<'a> PageReader<'a> for Raw<'a> {
     }
 
     fn peek_next_page(&mut self) -> Result<Option<PageMetadata>, SourceFault> {
+        // Kept: tried as a `map` over the part; the proof did not close.
         let Some(buf) = self.next_part() else {
             return Ok(None);
         };

@@ -35,6 +35,7 @@ impl<'a> RunReader<'a> {
             skip: 0,
             count,
         };
+        // Kept: every field. Tried over those of `hybrid`, whose contract does not name them.
         RunReader {
             width,
             limit,

@@ -4,7 +4,8 @@ ghost use Rattle.std.specs.Prelude.{◌≡◌, nat_le};
 ghost use Rattle.std.specs.List.{list_any, position};
 ghost use Rattle.run.specs.Packed.{good};
 
-/// Whether a number is not below the limit: no early exit, so that it runs in vectors.
+/// Whether a number is not below the limit.
+// Kept: a loop with no early exit, which runs in vectors. The library's `any` ends at the first.
 fn any_at_least(numbers: &[u32], limit: u32) -> bool
     ensures { result ≡ list_any (λ x. nat_le limit x) numbers.now }
 {

@@ -54,7 +54,7 @@ fn by_groups<T: Number, const W: usize>(bytes: &[u8], out: &mut [T]) -> usize
 }
 
 /// `by_groups` at the width.
-// Kept: 32 arms. Each is a loop made for one width; a table would hold pointers to functions, and calls of those are not inlined.
+// Kept: 32 arms. A const argument is not made from a value, so a match is the form; a table would hold pointers to functions.
 fn groups<T: Number>(bytes: &[u8], width: u32, out: &mut [T]) -> usize
     ensures most { result ≤ length out.old }
     ensures is { take result out.new ≡ map T.Number.from (low_first width result bytes.now) }

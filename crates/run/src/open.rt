@@ -33,6 +33,7 @@ impl<'a> RunReader<'a> {
     pub(crate) fn broken(width: Width) -> RunReader<'a>
         ensures { to_come result ≡ ended fault }
     {
+        // Kept: every field. Tried over those of `hybrid`, whose contract does not name them.
         RunReader {
             width,
             limit: 0,

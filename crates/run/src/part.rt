@@ -135,6 +135,7 @@ impl<'a> Part<'a> {
         k
     }
 
+    // Kept: beside `good`, as `take` beside `pass`.
     /// Writes the numbers that stand in front of the first that is not below the limit, and tells how many.
     pub(crate) fn unpack_good<T: Number>(self, limit: u64, out: &mut [T]) -> usize
         requires { length out.old ≡ self.count }

@@ -39,6 +39,7 @@ impl<'a> RunReader<'a> {
         Ok(k)
     }
 
+    // Kept: `skip` beside `read`, as `pass` beside `take`.
     /// Skips `m` numbers, fewer only where the stream comes to a clean end, and tells how many.
     /// Where a fault comes first, the reader stays where it was.
     pub fn skip(&mut self, m: usize) -> Result<usize, StreamFault>

@@ -13,6 +13,7 @@ use element::number::Number;
 use element::slices::fill_all;
 
 /// Whether a number is good.
+// Kept: a name for the one test of the limit that both kinds of run make.
 fn below(x: u32, limit: u64) -> bool
     ensures { result ≡ nat_lt x limit }
 {

@@ -14,6 +14,7 @@ use std::{fmt, io};
 use stream::width::Width;
 
 /// How the numbers that were asked for ended.
+// Kept: beside the numbers that came before it, and with `More`, since the table prints both.
 #[derive(Clone, Copy, PartialEq, Eq)]
 enum End {
     /// All were there.

@@ -15,6 +15,7 @@ pub(crate) struct Span {
 }
 
 /// A record: where a page's bytes lie, and then the page's own fields.
+// Kept: encodings as numbers, as in `Page`.
 #[derive(Clone, Copy)]
 pub(crate) enum Record {
     Dictionary {
@@ -45,7 +46,7 @@ fn u32_at(bytes: &[u8], at: usize) -> u32
     requires { at + 4 ≤ length bytes.now }
     ensures { result ≡ le4 bytes.now at }
 {
-    u32::from_le_bytes([bytes[at], bytes[at + 1], bytes[at + 2], bytes[at + 3]])
+    u32::from_le_bytes(*bytes[at..].first_chunk().unwrap())
 }
 
 impl Span {

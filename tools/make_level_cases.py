@@ -1,7 +1,7 @@
 """Writes a table of level decoders, calls and what they answer, always the same; levels come from the independent decoder.
 
 A line is a case: KIND MAXIMUM ENCODING BYTES ROOM CALLS -> ANSWERS AREA. KIND is rep, def or mask; ENCODING 3 or 4; the bytes
-are in hexadecimal, or - for none; ROOM is how many elements the area has, each 7 (or 1, in a mask) before the first call. The
+are in hexadecimal, or - for none; ROOM is how many elements the area has, each 7 (or true, in a mask) before the first call. The
 calls are joined by commas: r:Q:M reads up to Q records and M levels, s:Q:M skips them, f flushes, d:M reads M definition
 levels, k:M skips them, n:ENCODING:BYTES goes on to other bytes. A read or a skip answers two counts (records closed, or levels
 that equal the maximum; then levels taken), or the number of its refusal; a flush answers whether a record was open. The area is
@@ -24,7 +24,8 @@ class Decoder:
 
     def __init__(self, kind, maximum, room):
         self.kind, self.maximum = kind, maximum
-        self.cells = [1 if kind == "mask" else 7] * room
+        self.cells = [True if kind == "mask" else 7] * room
+        self.blank = False if kind == "mask" else 0
         self.count = 0
         self.opened = False
         self.levels, self.end = [], "clean"
@@ -37,11 +38,11 @@ class Decoder:
     def refuse(self, number, area):
         self.levels, self.end, self.opened = [], "clean", False
         if area:
-            self.cells[self.count:] = [0] * (len(self.cells) - self.count)
+            self.cells[self.count:] = [self.blank] * (len(self.cells) - self.count)
         return f"refused {number}"
 
     def append(self, levels):
-        own = [int(level != 0) for level in levels] if self.kind == "mask" else levels
+        own = [level != 0 for level in levels] if self.kind == "mask" else levels
         own = own[: len(self.cells) - self.count]
         self.cells[self.count : self.count + len(own)] = own
         self.count += len(own)
@@ -102,7 +103,7 @@ def answer(case):
     decoder = Decoder(kind, int(maximum), int(room))
     words = [["n", encoding, data]] + [call.split(":") for call in calls.split(",")]
     answers = "".join(f" {decoder.call(call)};" for call in words)
-    cells = "".join(f" {cell}" for cell in decoder.cells)
+    cells = "".join(f" {cell}".lower() for cell in decoder.cells)
     return f"{case} ->{answers} {decoder.count} of{cells}"
 
 

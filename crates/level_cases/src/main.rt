@@ -11,7 +11,7 @@
 use area::area::Area;
 use hex_words::bytes_of;
 use level::column::ColumnLevelDecoder;
-use level::definition::{DefinitionLevelDecoder, LevelsDecoder, MaskDecoder};
+use level::definition::{DefinitionLevelDecoder, DefinitionLevelDecoderImpl, LevelKind};
 use level::encoding::LevelEncoding;
 use level::lookahead::RepetitionLevelDecoderImpl;
 use level::refusal::LevelRefusal;
@@ -22,17 +22,16 @@ use std::io;
 /// A call of a decoder.
 #[derive(Drop)]
 enum Call {
-    /// Of a repetition decoder: records and levels.
-    Records {
-        read: bool,
+    ReadRecords {
         records: usize,
         levels: usize,
     },
-    /// Of a definition decoder: levels.
-    Levels {
-        read: bool,
+    SkipRecords {
+        records: usize,
         levels: usize,
     },
+    ReadLevels(usize),
+    SkipLevels(usize),
     Flush,
     Data {
         encoding: LevelEncoding,
@@ -57,18 +56,19 @@ fn number(word: &str) -> usize {
 fn call_of(heap: Global, word: &str) -> Result<Call, AllocError> {
     let words = word.split(':').collect::<Vec<&str>>(heap)?;
     Ok(match words.as_slice() {
-        [name, records, levels] if *name != "n" => Call::Records {
-            read: *name == "r",
+        ["r", records, levels] => Call::ReadRecords {
             records: number(records),
             levels: number(levels),
         },
-        [_, encoding, bytes] => Call::Data {
+        ["s", records, levels] => Call::SkipRecords {
+            records: number(records),
+            levels: number(levels),
+        },
+        ["d", levels] => Call::ReadLevels(number(levels)),
+        ["k", levels] => Call::SkipLevels(number(levels)),
+        ["n", encoding, bytes] => Call::Data {
             encoding: encoding_of(encoding),
             bytes: bytes_of(heap, bytes)?,
-        },
-        [name, levels] => Call::Levels {
-            read: *name == "d",
-            levels: number(levels),
         },
         _ => Call::Flush,
     })
@@ -86,172 +86,144 @@ fn tell(out: &mut String, reply: Result<(usize, usize), LevelRefusal>) -> Result
     }
 }
 
-/// Makes the calls on a decoder of repetition levels, and tells its answers.
-fn repetition<'a, D: RepetitionLevelDecoder<'a> + Drop>(
-    heap: Global,
-    mut decoder: D,
-    area: &mut Area<'_, i16>,
-    calls: &'a [Call],
-) -> Result<String, AllocError> {
-    let mut out = String::new(heap);
-    for call in calls {
-        match call {
-            Call::Records {
-                read,
-                records,
-                levels,
-            } => {
-                let reply = if *read {
-                    decoder.read_rep_levels(area, *records, *levels)
-                } else {
-                    decoder.skip_rep_levels(*records, *levels)
-                };
-                tell(&mut out, reply)?;
-            }
-            Call::Data { encoding, bytes } => {
-                decoder.set_data(*encoding, bytes.as_slice());
-                write!(out, " data;")?;
-            }
-            _ => {
-                let opened = decoder.flush_partial();
-                write!(out, "{}", if opened { " open;" } else { " closed;" })?;
+/// What a decoder answers, and its area afterwards.
+#[derive(Drop, PartialEq)]
+struct Outcome<T> {
+    answers: String,
+    filled: usize,
+    cells: Vec<T>,
+}
+
+impl<T: Copy + std::fmt::Display> Outcome<T> {
+    /// Prints a case with its outcome.
+    fn print(&self, rt: &HostRuntime, line: &str) -> io::Result<()> {
+        let answers = self.answers.as_str();
+        let filled = self.filled;
+        print!(rt; "{line} ->{answers} {filled} of")?;
+        for cell in self.cells.as_slice() {
+            print!(rt; " {cell}")?;
+        }
+        println!(rt; "")
+    }
+}
+
+/// A decoder's maximum, the room of its area, and the calls on it.
+#[derive(Drop)]
+struct Case {
+    maximum: i16,
+    room: usize,
+    calls: Vec<Call>,
+}
+
+impl Case {
+    /// Makes the calls on a decoder of repetition levels.
+    fn repetition<'a, D: RepetitionLevelDecoder<'a> + Drop>(
+        &'a self,
+        heap: Global,
+    ) -> Result<Outcome<i16>, AllocError> {
+        let mut answers = String::new(heap);
+        let mut cells = vec![in heap; 7i16; self.room]?;
+        let mut area = Area::new(cells.as_mut_slice());
+        let mut decoder = D::new(self.maximum);
+        for call in self.calls.as_slice() {
+            match call {
+                Call::ReadRecords { records, levels } => {
+                    let reply = decoder.read_rep_levels(&mut area, *records, *levels);
+                    tell(&mut answers, reply)?;
+                }
+                Call::SkipRecords { records, levels } => {
+                    tell(&mut answers, decoder.skip_rep_levels(*records, *levels))?;
+                }
+                Call::Flush => {
+                    let opened = decoder.flush_partial();
+                    write!(answers, "{}", if opened { " open;" } else { " closed;" })?;
+                }
+                Call::Data { encoding, bytes } => {
+                    decoder.set_data(*encoding, bytes.as_slice());
+                    write!(answers, " data;")?;
+                }
+                _ => {}
             }
         }
+        let filled = area.len();
+        Ok(Outcome {
+            answers,
+            filled,
+            cells,
+        })
     }
-    Ok(out)
-}
 
-/// The same on a decoder of definition levels.
-fn definition<'a, D: DefinitionLevelDecoder<'a> + Drop>(
-    heap: Global,
-    mut decoder: D,
-    area: &mut Area<'_, D::Level>,
-    calls: &'a [Call],
-) -> Result<String, AllocError> {
-    let mut out = String::new(heap);
-    for call in calls {
-        match call {
-            Call::Levels { read, levels } => {
-                let reply = if *read {
-                    decoder.read_def_levels(area, *levels)
-                } else {
-                    decoder.skip_def_levels(*levels)
-                };
-                tell(&mut out, reply)?;
+    /// Makes the calls on a decoder of definition levels, over an area of `fill`.
+    fn definition<L: LevelKind + Copy>(
+        &self,
+        heap: Global,
+        fill: L,
+    ) -> Result<Outcome<L>, AllocError> {
+        let mut answers = String::new(heap);
+        let mut cells = vec![in heap; fill; self.room]?;
+        let mut area = Area::new(cells.as_mut_slice());
+        let mut decoder = DefinitionLevelDecoderImpl::<L>::new(self.maximum);
+        for call in self.calls.as_slice() {
+            match call {
+                Call::ReadLevels(levels) => {
+                    let reply = decoder.read_def_levels(&mut area, *levels);
+                    tell(&mut answers, reply)?;
+                }
+                Call::SkipLevels(levels) => tell(&mut answers, decoder.skip_def_levels(*levels))?,
+                Call::Data { encoding, bytes } => {
+                    decoder.set_data(*encoding, bytes.as_slice());
+                    write!(answers, " data;")?;
+                }
+                _ => {}
             }
-            Call::Data { encoding, bytes } => {
-                decoder.set_data(*encoding, bytes.as_slice());
-                write!(out, " data;")?;
+        }
+        let filled = area.len();
+        Ok(Outcome {
+            answers,
+            filled,
+            cells,
+        })
+    }
+
+    /// Runs the case on the decoders of a kind; those of repetition levels must answer alike.
+    fn run(&self, rt: &HostRuntime, line: &str, kind: &str) -> io::Result<()> {
+        let heap = rt.alloc();
+        match kind {
+            "rep" => {
+                let plain = self.repetition::<PlainRepetitionDecoder>(heap)?;
+                let ahead = self.repetition::<RepetitionLevelDecoderImpl>(heap)?;
+                if ahead != plain {
+                    println!(rt; "the decoder that works ahead answers otherwise:")?;
+                    ahead.print(rt, line)?;
+                }
+                plain.print(rt, line)
             }
-            _ => {}
+            "mask" => self.definition(heap, true)?.print(rt, line),
+            _ => self.definition(heap, 7i16)?.print(rt, line),
         }
     }
-    Ok(out)
 }
 
-/// Prints a case with its answers, the area's count and its elements.
-fn print_case<T: Copy + std::fmt::Display>(
-    rt: &HostRuntime,
-    line: &str,
-    answers: &str,
-    count: usize,
-    cells: &[T],
-) -> io::Result<()> {
-    print!(rt; "{line} ->{answers} {count} of")?;
-    for cell in cells {
-        print!(rt; " {cell}")?;
-    }
-    println!(rt; "")
-}
-
-/// A case of repetition levels, on both decoders.
-fn repetition_case(
-    rt: &HostRuntime,
-    line: &str,
-    maximum: i16,
-    room: usize,
-    calls: &[Call],
-) -> io::Result<()> {
-    let heap = rt.alloc();
-    let mut cells = vec![in heap; 7i16; room]?;
-    let mut area = Area::new(cells.as_mut_slice());
-    let plain = PlainRepetitionDecoder::new(maximum);
-    let answers = repetition(heap, plain, &mut area, calls)?;
-    let count = area.len();
-    let mut other_cells = vec![in heap; 7i16; room]?;
-    let mut other_area = Area::new(other_cells.as_mut_slice());
-    let ahead = RepetitionLevelDecoderImpl::new(maximum);
-    let other = repetition(heap, ahead, &mut other_area, calls)?;
-    let other_count = other_area.len();
-    if answers.as_str() != other.as_str()
-        || count != other_count
-        || cells.as_slice() != other_cells.as_slice()
-    {
-        println!(rt; "the decoder that works ahead answers otherwise:{other}")?;
-    }
-    print_case(rt, line, answers.as_str(), count, cells.as_slice())
-}
-
-/// A case of definition levels.
-fn levels_case(
-    rt: &HostRuntime,
-    line: &str,
-    maximum: i16,
-    room: usize,
-    calls: &[Call],
-) -> io::Result<()> {
-    let heap = rt.alloc();
-    let mut cells = vec![in heap; 7i16; room]?;
-    let mut area = Area::new(cells.as_mut_slice());
-    let decoder = LevelsDecoder::new(maximum);
-    let answers = definition(heap, decoder, &mut area, calls)?;
-    let count = area.len();
-    print_case(rt, line, answers.as_str(), count, cells.as_slice())
-}
-
-/// A case of a mask.
-fn mask_case(
-    rt: &HostRuntime,
-    line: &str,
-    maximum: i16,
-    room: usize,
-    calls: &[Call],
-) -> io::Result<()> {
-    let heap = rt.alloc();
-    let mut cells = vec![in heap; true; room]?;
-    let mut area = Area::new(cells.as_mut_slice());
-    let decoder = MaskDecoder::new(maximum);
-    let answers = definition(heap, decoder, &mut area, calls)?;
-    let count = area.len();
-    let bits = cells
-        .iter()
-        .map(|cell| u8::from(*cell))
-        .collect::<Vec<u8>>(heap)?;
-    print_case(rt, line, answers.as_str(), count, bits.as_slice())
-}
-
-/// A case.
-fn case(rt: &HostRuntime, line: &str, words: &[&str]) -> io::Result<()> {
+/// Runs the case that a line spells.
+fn run_line(rt: &HostRuntime, line: &str, words: &[&str]) -> io::Result<()> {
     let [kind, maximum, encoding, bytes, room, spelled] = words else {
         return println!(rt; "{line}: no case");
     };
     let heap = rt.alloc();
-    let maximum = maximum.parse::<i16>().unwrap_or(0);
-    let room = number(room);
     let mut calls = Vec::new(heap);
-    let bytes = bytes_of(heap, bytes)?;
     calls.push(Call::Data {
         encoding: encoding_of(encoding),
-        bytes,
+        bytes: bytes_of(heap, bytes)?,
     })?;
     for word in spelled.split(',') {
         calls.push(call_of(heap, word)?)?;
     }
-    match *kind {
-        "rep" => repetition_case(rt, line, maximum, room, calls.as_slice()),
-        "mask" => mask_case(rt, line, maximum, room, calls.as_slice()),
-        _ => levels_case(rt, line, maximum, room, calls.as_slice()),
-    }
+    let case = Case {
+        maximum: maximum.parse::<i16>().unwrap_or(0),
+        room: number(room),
+        calls,
+    };
+    case.run(rt, line, kind)
 }
 
 fn main(rt: HostRuntime) -> io::Result<()> {
@@ -259,7 +231,7 @@ fn main(rt: HostRuntime) -> io::Result<()> {
     for line in rt.lines(heap) {
         let line = line?;
         let words = line.as_str().split(' ').collect::<Vec<&str>>(heap)?;
-        case(&rt, line.as_str(), words.as_slice())?;
+        run_line(&rt, line.as_str(), words.as_slice())?;
     }
     Ok(())
 }

@@ -1,11 +1,11 @@
 """Writes a table of level decoders, calls and what they answer, always the same; levels come from the independent decoder.
 
-A line is a case: KIND MAXIMUM ENCODING BYTES ROOM CALLS -> ANSWERS AREA. KIND is rep, def or mask; ENCODING 3 or 4; the bytes
-are in hexadecimal, or - for none; ROOM is how many elements the area has, each 7 (or true, in a mask) before the first call. The
-calls are joined by commas: r:Q:M reads up to Q records and M levels, s:Q:M skips them, f flushes, d:M reads M definition
-levels, k:M skips them, n:ENCODING:BYTES goes on to other bytes. A read or a skip answers two counts (records closed, or levels
-that equal the maximum; then levels taken), or the number of its refusal; a flush answers whether a record was open. The area is
-its count, and then all of its elements. The bytes of the case are its first call.
+A line is a case: KIND MAXIMUM ENCODING BYTES ROOM CALLS -> ANSWERS AREA. KIND is rep, def or mask; ENCODING 3 or 4, or - where
+no data come first; the bytes are in hexadecimal, or - for none; ROOM is how many elements the area has, each 7 (or true, in a
+mask) before the first call. The calls are joined by commas: r:Q:M reads up to Q records and M levels, s:Q:M skips them, f
+flushes, d:M reads M definition levels, k:M skips them, n:ENCODING:BYTES goes on to other bytes. A read or a skip answers two
+counts (records closed, or levels that equal the maximum; then levels taken), or the number of its refusal; a flush answers
+whether a record was open. The area is its count, and then all of its elements. The bytes of the case are its first call.
 
     make_level_cases.py > cases.txt
 """
@@ -15,7 +15,7 @@ import random
 from decode_stream import decode
 from make_stream_cases import damaged, packed, varint
 
-MOST = 400
+MOST = 30000
 KINDS = {3: "hybrid", 4: "packed"}
 
 
@@ -101,7 +101,7 @@ def unhex(word):
 def answer(case):
     kind, maximum, encoding, data, room, calls = case.split(" ")
     decoder = Decoder(kind, int(maximum), int(room))
-    words = [["n", encoding, data]] + [call.split(":") for call in calls.split(",")]
+    words = ([] if encoding == "-" else [["n", encoding, data]]) + [call.split(":") for call in calls.split(",")]
     answers = "".join(f" {decoder.call(call)};" for call in words)
     cells = "".join(f" {cell}".lower() for cell in decoder.cells)
     return f"{case} ->{answers} {decoder.count} of{cells}"
@@ -172,7 +172,26 @@ FIXED = [
     "def 1 3 0801 3 d:4,d:1",
     "mask 1 3 03aa 9 d:9,k:1",
     "mask 1 4 a5 4 d:3,k:4,d:1",
+    "rep 1 - - 4 r:1:1,s:1:1,f,r:0:0",
+    "def 2 - - 4 d:3,k:2",
+    "mask 1 - - 4 d:3,k:2,n:3:0801,d:3",
 ]
+
+
+def long_bytes(rng, maximum, encoding):
+    """Some thousands of levels: long runs of one level, and stretches of many."""
+    levels = []
+    while len(levels) < 3500:
+        levels += [rng.randint(0, maximum)] * rng.randint(1, 1500)
+        levels += [rng.randint(0, maximum) for _ in range(rng.randint(0, 300))]
+    return encoded(rng, levels, maximum, encoding).hex()
+
+
+def long_call(rng, kind):
+    levels = rng.choice([1, 60, 1023, 1024, 1025, 1500, 2500])
+    if kind == "rep":
+        return f"{rng.choice('rss')}:{rng.choice([1, 2, 40, 1000, 5000])}:{levels}"
+    return f"{rng.choice('dkk')}:{levels}"
 
 
 def cases(seed):
@@ -184,6 +203,12 @@ def cases(seed):
         encoding = rng.choice([3, 3, 4])
         calls = ",".join(some_call(rng, kind, maximum) for _ in range(rng.randint(1, 6)))
         yield f"{kind} {maximum} {encoding} {some_bytes(rng, kind, maximum, encoding)} {rng.choice([0, 3, 9, 30, 60])} {calls}"
+    for _ in range(24):
+        kind = rng.choice(["rep", "rep", "def", "mask"])
+        maximum = 1 if kind == "mask" else rng.choice([1, 2, 3])
+        encoding = rng.choice([3, 3, 4])
+        calls = ",".join(long_call(rng, kind) for _ in range(rng.randint(2, 6)))
+        yield f"{kind} {maximum} {encoding} {long_bytes(rng, maximum, encoding)} {rng.choice([9, 60, 60, 1100])} {calls}"
 
 
 if __name__ == "__main__":

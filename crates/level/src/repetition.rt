@@ -21,6 +21,7 @@ use std::mem;
 pub trait RepetitionLevelDecoder<'a>: ColumnLevelDecoder<'a> {
     /// Takes levels until `num_records` records are closed, or `num_levels` are taken, or a clean end; appends them, and tells how many records it
     /// closed, then how many levels it took. At a clean end the front that fits is appended. A refused call leaves nothing to come and no record open.
+    // Kept: two counts as the Rust crate tells them, here and in the calls below, as for definition levels.
     fn read_rep_levels(
         &mut self,
         out: &mut Area<'_, i16>,

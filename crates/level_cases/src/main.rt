@@ -1,8 +1,8 @@
 //! Runs a table of level decoders and calls from standard input, one case a line, and prints each
 //! with its answers and what the area holds afterwards.
 //!
-//! A case is `rep`, `def` or `mask`, the maximum, the encoding, the bytes in base sixteen (`-` is
-//! none), the room of the area, and the calls, joined by commas: `r:Q:M` reads up to Q records and M
+//! A case is `rep`, `def` or `mask`, the maximum, the encoding (`-` where no data come first), the
+//! bytes in base sixteen (`-` is none), the room of the area, and the calls, joined by commas: `r:Q:M` reads up to Q records and M
 //! levels, `s:Q:M` skips them, `f` flushes, `d:M` reads M definition levels, `k:M` skips them, and
 //! `n:ENCODING:BYTES` goes on to other bytes. Both decoders of repetition levels run each case of
 //! theirs, and must answer alike.
@@ -39,12 +39,11 @@ enum Call {
     },
 }
 
-/// The encoding that a word tells.
-fn encoding_of(word: &str) -> LevelEncoding {
-    match word {
-        "4" => LevelEncoding::BitPacked,
-        _ => LevelEncoding::Rle,
-    }
+/// The encoding of levels that a word tells, if it is one.
+fn encoding_of(word: &str) -> Option<LevelEncoding> {
+    word.parse::<u8>()
+        .ok()
+        .and_then(|number| LevelEncoding::try_from(number).ok())
 }
 
 /// The number in a word, 0 where it is none.
@@ -52,10 +51,16 @@ fn number(word: &str) -> usize {
     word.parse::<usize>().unwrap_or(0)
 }
 
-/// The call that a word spells.
-fn call_of(heap: Global, word: &str) -> Result<Call, AllocError> {
+/// The call that goes on to the bytes of a word, if the encoding is one of levels.
+fn data_of(heap: Global, encoding: &str, bytes: &str) -> Result<Option<Call>, AllocError> {
+    let bytes = bytes_of(heap, bytes)?;
+    Ok(encoding_of(encoding).map(|encoding| Call::Data { encoding, bytes }))
+}
+
+/// The call that a word spells, if it is one.
+fn call_of(heap: Global, word: &str) -> Result<Option<Call>, AllocError> {
     let words = word.split(':').collect::<Vec<&str>>(heap)?;
-    Ok(match words.as_slice() {
+    Ok(Some(match words.as_slice() {
         ["r", records, levels] => Call::ReadRecords {
             records: number(records),
             levels: number(levels),
@@ -66,12 +71,33 @@ fn call_of(heap: Global, word: &str) -> Result<Call, AllocError> {
         },
         ["d", levels] => Call::ReadLevels(number(levels)),
         ["k", levels] => Call::SkipLevels(number(levels)),
-        ["n", encoding, bytes] => Call::Data {
-            encoding: encoding_of(encoding),
-            bytes: bytes_of(heap, bytes)?,
-        },
-        _ => Call::Flush,
-    })
+        ["f"] => Call::Flush,
+        ["n", encoding, bytes] => return data_of(heap, encoding, bytes),
+        _ => return Ok(None),
+    }))
+}
+
+/// The calls that words spell, behind the first data where there are any.
+fn calls_of(
+    heap: Global,
+    encoding: &str,
+    bytes: &str,
+    spelled: &str,
+) -> Result<Option<Vec<Call>>, AllocError> {
+    let mut calls = Vec::new(heap);
+    if encoding != "-" {
+        let Some(data) = data_of(heap, encoding, bytes)? else {
+            return Ok(None);
+        };
+        calls.push(data)?;
+    }
+    for word in spelled.split(',') {
+        let Some(call) = call_of(heap, word)? else {
+            return Ok(None);
+        };
+        calls.push(call)?;
+    }
+    Ok(Some(calls))
 }
 
 /// Appends what a call for levels answers.
@@ -117,6 +143,7 @@ struct Case {
 
 impl Case {
     /// Makes the calls on a decoder of repetition levels.
+    // Kept: the set-up and the end stand in `definition` too; what lies between calls other methods, with other replies.
     fn repetition<'a, D: RepetitionLevelDecoder<'a> + Drop>(
         &'a self,
         heap: Global,
@@ -199,7 +226,8 @@ impl Case {
                 plain.print(rt, line)
             }
             "mask" => self.definition(heap, true)?.print(rt, line),
-            _ => self.definition(heap, 7i16)?.print(rt, line),
+            "def" => self.definition(heap, 7i16)?.print(rt, line),
+            _ => println!(rt; "{line}: no case"),
         }
     }
 }
@@ -209,15 +237,9 @@ fn run_line(rt: &HostRuntime, line: &str, words: &[&str]) -> io::Result<()> {
     let [kind, maximum, encoding, bytes, room, spelled] = words else {
         return println!(rt; "{line}: no case");
     };
-    let heap = rt.alloc();
-    let mut calls = Vec::new(heap);
-    calls.push(Call::Data {
-        encoding: encoding_of(encoding),
-        bytes: bytes_of(heap, bytes)?,
-    })?;
-    for word in spelled.split(',') {
-        calls.push(call_of(heap, word)?)?;
-    }
+    let Some(calls) = calls_of(rt.alloc(), encoding, bytes, spelled)? else {
+        return println!(rt; "{line}: no case");
+    };
     let case = Case {
         maximum: maximum.parse::<i16>().unwrap_or(0),
         room: number(room),

@@ -37,7 +37,7 @@ enum Words {
 
 impl Words {
     /// Takes the words of a source off the front of `words`; others are a source of no width.
-    // Kept: raw values of no width for words of no kind, since the table prints the refusal of those.
+    // Kept: raw values of no width for a line without the words of a source; an Option here would change what it prints, their refusal.
     fn take<'w>(heap: Global, words: &'w [&'w str]) -> Result<(Words, &'w [&'w str]), AllocError> {
         match words {
             ["strip", records, data, rest @ ..] => {

@@ -13,7 +13,7 @@ use crate::part::numbers_in;
 use crate::reader::RunReader;
 use stream::header::{Start, read_header, read_start};
 
-// Kept: a name of its own beside `numbers_in`, whose count for BIT_PACKED is that of no cut.
+// Kept: a function of its own, the one place of the rule for a cut run; `numbers_in` counts where nothing is cut too.
 /// How many numbers a packed run has that the end of the bytes cuts.
 fn cut_numbers(rest: &[u8], width: usize) -> usize
     requires some_bits { 0 < width }

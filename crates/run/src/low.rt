@@ -35,6 +35,7 @@ fn group<T: Number, const W: usize>(bytes: &[u8], out: &mut [T])
     }
 }
 
+// Kept: that a reply is at most the places, here, in `groups` and in `Run::take`, each of which hands it on.
 /// Writes whole groups of numbers, as far as there are eight bytes behind a group, and tells how many numbers; the bytes begin where they do.
 fn by_groups<T: Number, const W: usize>(bytes: &[u8], out: &mut [T]) -> usize
     requires some_bits { 0 < W }

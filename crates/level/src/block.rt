@@ -18,9 +18,13 @@ pub(crate) fn rep_course(reader: RunReader<'_>, asked: Asked) -> Result<Course, 
     ensures there { IfOk result (λ c. c.taken ≤ length (to_come reader.entry).numbers) }
 {
     let mut ahead = reader;
+    let mut walk = Walk::none(asked.opened);
+    if asked.levels == 0 {
+        // Before there is a block to clear.
+        return Ok(walk.course(true));
+    }
     // Kept: an array, since a decoder has no heap.
     let mut block = [0u32; 1024];
-    let mut walk = Walk::none(asked.opened);
     'walks: loop {
         let rest = asked.behind(walk);
         if rest.levels == 0 {

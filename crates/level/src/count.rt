@@ -8,11 +8,19 @@ use crate::course::Course;
 use run::kind::StreamFault;
 use run::reader::RunReader;
 
+/// How many levels are read at most before it is known whether a fault refuses the call.
+const READ_AT_ONCE: usize = 8192;
+
 /// What a call for `m` definition levels comes to, where `max` is the greatest.
 pub(crate) fn def_course(reader: RunReader<'_>, max: u32, m: usize) -> Result<Course, StreamFault>
     ensures is { result ≡ def_course max m (to_come reader.entry) }
     ensures there { IfOk result (λ c. c.taken ≤ length (to_come reader.entry).numbers) }
 {
+    if m > READ_AT_ONCE {
+        // Skipping finds a fault by the headers of runs, and looks at no copy in front of it.
+        let mut end = reader;
+        let _ = end.skip(m)?;
+    }
     let mut ahead = reader;
     // Kept: an array, since a decoder has no heap; and a loop over blocks as in `rep_course`, which stops within one.
     let mut block = [0u32; 1024];

@@ -5,7 +5,7 @@
 //! bytes in base sixteen (`-` is none), the room of the area, and the calls, joined by commas: `r:Q:M` reads up to Q records and M
 //! levels, `s:Q:M` skips them, `f` flushes, `d:M` reads M definition levels, `k:M` skips them, and
 //! `n:ENCODING:BYTES` goes on to other bytes. Both decoders of repetition levels run each case of
-//! theirs, and must answer alike.
+//! theirs, and both kinds of definition levels run each of theirs; they must answer alike.
 #![tactic(auto)]
 
 use area::area::Area;
@@ -121,6 +121,11 @@ struct Outcome<T> {
 }
 
 impl<T: Copy + std::fmt::Display> Outcome<T> {
+    /// Whether a decoder into other elements answered the same, and filled as many.
+    fn is_alike<U>(&self, other: &Outcome<U>) -> bool {
+        self.answers == other.answers && self.filled == other.filled
+    }
+
     /// Prints a case with its outcome.
     fn print(&self, rt: &HostRuntime, line: &str) -> io::Result<()> {
         let answers = self.answers.as_str();
@@ -212,7 +217,7 @@ impl Case {
         })
     }
 
-    /// Runs the case on the decoders of a kind; those of repetition levels must answer alike.
+    /// Runs the case on the decoders of a kind; both of repetition levels, and both kinds of definition levels, must answer alike.
     fn run(&self, rt: &HostRuntime, line: &str, kind: &str) -> io::Result<()> {
         let heap = rt.alloc();
         match kind {
@@ -225,8 +230,20 @@ impl Case {
                 }
                 plain.print(rt, line)
             }
-            "mask" => self.definition(heap, true)?.print(rt, line),
-            "def" => self.definition(heap, 7i16)?.print(rt, line),
+            "mask" | "def" => {
+                let mask = self.definition(heap, true)?;
+                let levels = self.definition(heap, 7i16)?;
+                if !mask.is_alike(&levels) {
+                    println!(rt; "levels and a mask answer otherwise:")?;
+                    mask.print(rt, line)?;
+                    levels.print(rt, line)?;
+                }
+                if kind == "mask" {
+                    mask.print(rt, line)
+                } else {
+                    levels.print(rt, line)
+                }
+            }
             _ => println!(rt; "{line}: no case"),
         }
     }

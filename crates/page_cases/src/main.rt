@@ -13,9 +13,10 @@ use column_file::ColumnFile;
 use hex_words::bytes_of;
 use page::chain::Chain;
 use page::fault::{MakingFault, SourceFault};
+use page::page::Page;
 use page::reader::{PageReader, at_record_boundary};
 use page_text::listing::print_listing;
-use page_text::{broken_line, header_line, making_cause, refused_line, source_cause};
+use page_text::{broken_line, header_line, making_cause, page_line, refused_line, source_cause};
 use raw::Raw;
 use std::alloc::{AllocError, Global};
 use std::io;
@@ -88,6 +89,11 @@ impl Words {
     }
 }
 
+/// Prints a page's line.
+fn print_page(rt: &HostRuntime, number: usize, page: &Page) -> io::Result<()> {
+    rt.println(page_line(rt.alloc(), number, page)?)
+}
+
 /// Prints what a call answers, or hands on its fault.
 fn reply<'a, S: PageReader<'a>>(
     rt: &HostRuntime,
@@ -106,8 +112,7 @@ fn reply<'a, S: PageReader<'a>>(
             None => println!(rt; "none"),
         },
         b'g' => match source.get_next_page()? {
-            // Kept: the text of `page_line`, whose want of memory `?` cannot pass on here.
-            Some(page) => println!(rt; "{number}: {page}"),
+            Some(page) => print_page(rt, number, &page),
             None => println!(rt; "none"),
         },
         b's' => {

@@ -1,12 +1,11 @@
 -- Laws of reading and skipping.
-use Rattle.std.proofs.Common.{◌≡◌, ℕ, ◌+◌, ◌-◌, ◌<◌, ◌≤◌, min, inl, inr, true, false, ltb, List, [], ◌++◌, map, length, take, drop, sym, refl, ap, ◌∙◌, arith}
+use Rattle.std.proofs.Common.{◌≡◌, ℕ, ◌+◌, ◌-◌, ◌<◌, ◌≤◌, inl, inr, true, false, ltb, List, [], ◌++◌, map, length, take, drop, sym, refl, ap, ◌∙◌, arith}
 use borrow.Rule.Slice.PartMut.{put_mid}
 use Rattle.std.proofs.lemmas.List.{take_rest, append_assoc, append-nil, map-append, length-append, length-map, length-take-le, length-drop, take_at, take_all, drop_at, drop_all, drop-drop}
 use Rattle.std.proofs.lemmas.Bool.{lt-ltb, le-ltb, and_left, and_right, and_from}
 use Rattle.stream.specs.Streams.{Stream, ended, clean, fault, within, hybrid}
 use Rattle.run.specs.declared.reader.RunReader.{RunReader}
 use Rattle.run.specs.Coming.{to_come, next_of, Steps, Stopped}
-use Rattle.run.specs.declared.kind.Run.{Run}
 use Rattle.run.specs.Packed.{good}
 use Rattle.run.proofs.Within.{good_there, good_few, good_over, good_stops}
 use Rattle.run.specs.Runs.{left_of}

@@ -113,7 +113,7 @@ impl<'a> Part<'a> {
     }
 
     /// Whether the limit is above every number of the width.
-    fn fits_below(self, limit: u64) -> bool
+    pub(crate) fn fits_below(self, limit: u64) -> bool
         ensures { result ≡ true → good limit (numbers self.entry) ≡ self.entry.count }
     {
         limit >= 1 << self.width.bits()
@@ -124,8 +124,17 @@ impl<'a> Part<'a> {
         ensures { result ≡ good limit (numbers self.entry) }
     {
         if self.fits_below(limit) {
-            return self.count;
+            self.count
+        } else {
+            self.good_held(limit)
         }
+    }
+
+    /// The same by blocks that are held against the limit. A call of its own: its array stays out of calls that hold nothing.
+    #[inline(never)]
+    fn good_held(self, limit: u64) -> usize
+        ensures { result ≡ good limit (numbers self.entry) }
+    {
         let mut held = [0u32; BLOCK];
         let mut rest = self;
         let mut k = 0;
@@ -144,8 +153,19 @@ impl<'a> Part<'a> {
     {
         if self.fits_below(limit) {
             self.unpack(out);
-            return self.count;
+            self.count
+        } else {
+            self.unpack_held(limit, out)
         }
+    }
+
+    /// The same by blocks that are held against the limit, a call of its own as `good_held` is.
+    #[inline(never)]
+    fn unpack_held<T: Number>(self, limit: u64, out: &mut [T]) -> usize
+        requires { length out.old ≡ self.count }
+        ensures is { result ≡ good limit (numbers self.entry) }
+        ensures written { out.new ≡ map T.Number.from (take result (numbers self.entry)) ++ drop result out.old }
+    {
         let mut held = [0u32; BLOCK];
         let mut rest = self;
         let mut k = 0;

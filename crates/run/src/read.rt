@@ -46,6 +46,19 @@ impl<'a> RunReader<'a> {
         ensures reply { result ≡ replied m (to_come self.old) }
         ensures rest { to_come self.new ≡ rest m (to_come self.old) }
     {
+        // Most calls stay within a run and meet no fault; they keep nothing to go back to.
+        if self.step(m) {
+            return Ok(m);
+        }
+        self.skip_or_stay(m)
+    }
+
+    /// The same over several runs, or up to a fault. A call of its own: what it keeps to go back to stays out of most calls.
+    #[inline(never)]
+    fn skip_or_stay(&mut self, m: usize) -> Result<usize, StreamFault>
+        ensures reply { result ≡ replied m (to_come self.old) }
+        ensures rest { to_come self.new ≡ rest m (to_come self.old) }
+    {
         let before = *self;
         let reply = self.skip_through(m);
         if reply.is_err() {

@@ -1,8 +1,9 @@
 //! Steps within a run.
 
-ghost use Rattle.std.specs.Prelude.{◌≡◌, ◌≤◌, ◌<◌, ◌++◌, map, length, take, drop, nat_lt, ◌==◌};
+ghost use Rattle.std.specs.Prelude.{◌≡◌, true, false, ◌≤◌, ◌<◌, ◌++◌, map, length, take, drop, nat_lt, ◌==◌};
 ghost use Rattle.run.specs.Packed.{numbers, good};
-ghost use Rattle.run.specs.Coming.{next_of, Steps, Stopped};
+ghost use Rattle.run.specs.Coming.{next_of, to_come, Steps, Stopped};
+ghost use Rattle.run.specs.Reading.{after};
 ghost use Rattle.run.specs.Runs.{copied, left_of};
 
 use crate::copies::Copies;
@@ -88,6 +89,27 @@ impl<'a> Run<'a> {
         }
     }
 
+    /// Whether it has `m` numbers below the limit in front, where that shows without a look at packed numbers.
+    fn holds(&self, limit: u64, m: usize) -> bool
+        ensures { result ≡ true → m ≤ good limit (left_of self.now) }
+    {
+        match self {
+            Run::Repeated(copies) => m <= copies.count && below(copies.value, limit),
+            Run::Packed(part) => m <= part.count && part.fits_below(limit),
+        }
+    }
+
+    /// Passes over the next `m` numbers.
+    fn advance(&mut self, m: usize)
+        requires { m ≤ length (left_of self.old) }
+        ensures { left_of self.new ≡ drop m (left_of self.old) }
+    {
+        match self {
+            Run::Repeated(copies) => copies.count -= m,
+            Run::Packed(part) => part.advance(m),
+        }
+    }
+
     /// Passes over the next numbers, `m` at most, but none from the first on that is not below the limit; tells how many.
     fn pass(&mut self, limit: u64, m: usize) -> usize
         ensures is { result ≡ good limit (take m (left_of self.old)) }
@@ -113,6 +135,19 @@ impl<'a> Run<'a> {
 }
 
 impl<'a> RunReader<'a> {
+    /// Passes over the next `m` numbers and tells so, where it shows without a look at packed numbers that they lie in the run and are good.
+    pub(crate) fn step(&mut self, m: usize) -> bool
+        ensures there { result ≡ true → m ≤ length (to_come self.old).numbers }
+        ensures on { result ≡ true → to_come self.new ≡ after m (to_come self.old) }
+        ensures stays { result ≡ false → self.new ≡ self.old }
+    {
+        if !self.run.holds(self.limit, m) {
+            return false;
+        }
+        self.run.advance(m);
+        true
+    }
+
     /// Writes the next numbers of the run, as many as there are places, but none from the first on that is not below the limit; tells how many.
     pub(crate) fn take<T: Number>(&mut self, out: &mut [T]) -> usize
         ensures steps { Steps self.old result self.new }

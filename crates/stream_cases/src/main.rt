@@ -1,8 +1,8 @@
 //! Runs a table of streams from standard input, one case a line, and prints each with its numbers
 //! and its end.
 //!
-//! A case is `hybrid` or `packed`, the width, the limit, the bytes in base sixteen (`-` is none),
-//! and how many numbers are asked for. Each is read number by number; and then at once, as indexes,
+//! A case is `hybrid` or `packed`, the width, the limit, the bytes in base sixteen (`-` is none; a
+//! capital counts as 0, as all that is no digit), and how many numbers are asked for. Each is read number by number; and then at once, as indexes,
 //! as levels and as mask bits, and skipped, which must all agree.
 #![tactic(auto)]
 
@@ -10,6 +10,7 @@ use element::number::Number;
 use hex_words::bytes_of;
 use run::kind::StreamFault;
 use run::reader::RunReader;
+use std::alloc::{AllocError, Global};
 use std::{fmt, io};
 use stream::width::Width;
 
@@ -75,22 +76,43 @@ impl<'a> Came<'a> {
         }
     }
 
-    /// Whether the numbers, read at once into places that all hold `unread`, are these, and what
-    /// stands behind them is as it was.
+    /// The places that hold these numbers as indexes, and 7 behind them.
+    fn indexes(&self) -> [u32; 64] {
+        let mut wanted = [7u32; 64];
+        for (place, number) in wanted.iter_mut().zip(self.numbers.iter()) {
+            *place = *number;
+        }
+        wanted
+    }
+
+    /// The same as levels: the lowest fifteen bits of each.
+    fn levels(&self) -> [i16; 64] {
+        let mut wanted = [7i16; 64];
+        for (place, number) in wanted.iter_mut().zip(self.numbers.iter()) {
+            *place = (*number & 0x7fff) as i16;
+        }
+        wanted
+    }
+
+    /// The same as mask bits: whether each is not 0, and `true` behind them.
+    fn mask(&self) -> [bool; 64] {
+        let mut wanted = [true; 64];
+        for (place, number) in wanted.iter_mut().zip(self.numbers.iter()) {
+            *place = *number != 0;
+        }
+        wanted
+    }
+
+    /// Whether the places, into which the numbers are read at once, are the wanted ones afterwards.
     fn at_once<T: Number + PartialEq>(
         &self,
         mut reader: RunReader,
         places: &mut [T],
-        unread: T,
+        wanted: &[T],
     ) -> bool {
         let asked = self.asked.min(places.len());
         let reply = reader.read(&mut places[..asked]);
-        places
-            .iter()
-            .zip(self.numbers.iter())
-            .all(|(x, number)| *x == T::from_u32(*number))
-            && places.iter().skip(self.numbers.len()).all(|x| *x == unread)
-            && self.replies(reply)
+        places.iter().zip(wanted.iter()).all(|(x, y)| *x == *y) && self.replies(reply)
     }
 
     /// Whether skipping answers as reading does, and leaves the same numbers behind a part.
@@ -109,7 +131,7 @@ impl<'a> Came<'a> {
             end: self.end,
         };
         front.replies(part.skip(front.asked))
-            && behind.at_once(part, &mut [7u32; 64], 7)
+            && behind.at_once(part, &mut [7u32; 64], &behind.indexes())
             && self.replies(whole.skip(self.asked))
     }
 }
@@ -121,14 +143,23 @@ fn answer(rt: &HostRuntime, line: &str, reader: RunReader, places: &mut [u32]) -
     for x in came.numbers {
         print!(rt; " {x}")?;
     }
-    if !came.at_once(reader, &mut [7u32; 64], 7) || !came.at_once(reader, &mut [7i16; 64], 7) {
+    if !came.at_once(reader, &mut [7u32; 64], &came.indexes())
+        || !came.at_once(reader, &mut [7i16; 64], &came.levels())
+    {
         print!(rt; " read otherwise at once")?;
     }
-    if !came.at_once(reader, &mut [true; 64], true) || !came.skipped(reader) {
+    if !came.at_once(reader, &mut [true; 64], &came.mask()) || !came.skipped(reader) {
         print!(rt; " read or skipped otherwise at once")?;
     }
     let end = came.end;
     println!(rt; " {end}")
+}
+
+/// A word with 0 for each capital, since none is a digit in this table.
+fn without_capitals(heap: Global, word: &str) -> Result<String, AllocError> {
+    word.chars()
+        .map(|c| if c.is_ascii_uppercase() { '0' } else { c })
+        .collect::<String>(heap)
 }
 
 /// A case.
@@ -141,7 +172,8 @@ fn case(rt: &HostRuntime, line: &str, words: &[&str]) -> io::Result<()> {
     };
     let limit = limit.parse::<u64>().unwrap_or(0);
     let asked = asked.parse::<usize>().unwrap_or(0);
-    let bytes = bytes_of(rt.alloc(), bytes)?;
+    let heap = rt.alloc();
+    let bytes = bytes_of(heap, without_capitals(heap, bytes)?.as_str())?;
     let reader = match *kind {
         "packed" => RunReader::bit_packed(bytes.as_slice(), width, limit),
         _ => RunReader::hybrid(bytes.as_slice(), width, limit),

@@ -1,6 +1,6 @@
 use Rattle.std.proofs.Common.{◌≡◌, ◌+◌, ◌≤◌, ◌++◌, map, length, take, drop}
 use Rattle.run.specs.Packed.{numbers, good, all_good}
-use Rattle.run.proofs.packed.Part.unpack_good.Given as goal
+use Rattle.run.proofs.packed.Part.unpack_held.Given as goal
 
 abbrev pub invariant-loop-rest : goal.invariant-loop-rest
 invariant-loop-rest g l =

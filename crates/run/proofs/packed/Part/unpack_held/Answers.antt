@@ -6,7 +6,7 @@ use Rattle.run.specs.Packed.{numbers, good, all_good}
 use Rattle.element.proofs.Written.{wrote_all}
 use Rattle.run.proofs.Goods.{good_most}
 use Rattle.run.proofs.PackedParts.{numbers_length}
-use Rattle.run.proofs.packed.Part.unpack_good.Goals as goal
+use Rattle.run.proofs.packed.Part.unpack_held.Goals as goal
 
 pub overflow_add-k : goal.overflow_add-k
 overflow_add-k g c = let s = c.args.self in omega (arith, good_most c.args.limit (numbers s), numbers_length s)

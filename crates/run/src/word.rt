@@ -25,21 +25,14 @@ pub(crate) fn window(bytes: &[u8], j: usize) -> u64
     }
 }
 
-/// The bytes, fewer than eight, with zeros behind them. A call of its own, with no array and no copy.
+/// The bytes, fewer than eight, with zeros behind them. A call of its own: its array stays out of the loops that ask for windows.
 #[cold]
 #[inline(never)]
 fn last_word(bytes: &[u8]) -> u64
     requires { length bytes.now < 8 }
     ensures { result ≡ le (take 8 bytes.now) }
 {
-    match bytes {
-        [a] => u64::from(*a),
-        [a, b] => u64::from_le_bytes([*a, *b, 0, 0, 0, 0, 0, 0]),
-        [a, b, c] => u64::from_le_bytes([*a, *b, *c, 0, 0, 0, 0, 0]),
-        [a, b, c, d] => u64::from_le_bytes([*a, *b, *c, *d, 0, 0, 0, 0]),
-        [a, b, c, d, e] => u64::from_le_bytes([*a, *b, *c, *d, *e, 0, 0, 0]),
-        [a, b, c, d, e, f] => u64::from_le_bytes([*a, *b, *c, *d, *e, *f, 0, 0]),
-        [a, b, c, d, e, f, g] => u64::from_le_bytes([*a, *b, *c, *d, *e, *f, *g, 0]),
-        _ => 0,
-    }
+    let mut eight = [0; 8];
+    eight[..bytes.len()].copy_from_slice(bytes);
+    u64::from_le_bytes(eight)
 }

@@ -155,11 +155,20 @@ fn answer(rt: &HostRuntime, line: &str, reader: RunReader, places: &mut [u32]) -
     println!(rt; " {end}")
 }
 
-/// A word with 0 for each capital, since none is a digit in this table.
-fn without_capitals(heap: Global, word: &str) -> Result<String, AllocError> {
-    word.chars()
-        .map(|c| if c.is_ascii_uppercase() { '0' } else { c })
-        .collect::<String>(heap)
+/// The bytes that a word spells where a capital is no digit: it counts as 0, as all that is none.
+fn small_bytes_of(heap: Global, word: &str) -> Result<Vec<u8>, AllocError> {
+    let mut bytes = bytes_of(heap, word)?;
+    for (byte, digits) in bytes.iter_mut().zip(word.as_bytes().chunks(2)) {
+        if let [high, low] = digits {
+            if high.is_ascii_uppercase() {
+                *byte &= 0x0f;
+            }
+            if low.is_ascii_uppercase() {
+                *byte &= 0xf0;
+            }
+        }
+    }
+    Ok(bytes)
 }
 
 /// A case.
@@ -172,8 +181,7 @@ fn case(rt: &HostRuntime, line: &str, words: &[&str]) -> io::Result<()> {
     };
     let limit = limit.parse::<u64>().unwrap_or(0);
     let asked = asked.parse::<usize>().unwrap_or(0);
-    let heap = rt.alloc();
-    let bytes = bytes_of(heap, without_capitals(heap, bytes)?.as_str())?;
+    let bytes = small_bytes_of(rt.alloc(), bytes)?;
     let reader = match *kind {
         "packed" => RunReader::bit_packed(bytes.as_slice(), width, limit),
         _ => RunReader::hybrid(bytes.as_slice(), width, limit),

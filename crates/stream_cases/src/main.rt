@@ -2,8 +2,9 @@
 //! and its end.
 //!
 //! A case is `hybrid` or `packed`, the width, the limit, the bytes in base sixteen (`-` is none; a
-//! capital counts as 0, as all that is no digit), and how many numbers are asked for. Each is read number by number; and then at once, as indexes,
-//! as levels and as mask bits, and skipped, which must all agree.
+//! capital counts as 0, as all that is no digit), and how many numbers are asked for. Each is read
+//! number by number; and then at once, as indexes, as levels and as mask bits, and skipped, which
+//! must all agree.
 #![tactic(auto)]
 
 use element::number::Number;
